@@ -1,0 +1,11 @@
+//! Keys of a dyadic tree, and the bytes of a text.
+//!
+//! A key names a box of cells: the root's box is all of them, and each key below the deepest level has two
+//! children, which halve its box. The names are those of MADNESS, whose keys are a level and a translation.
+#![tactic(auto)]
+
+mod key;
+mod text;
+
+pub use key::Key;
+pub use text::{OutOfMemory, Text};

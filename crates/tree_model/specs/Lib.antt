@@ -1,0 +1,6 @@
+pub mod Functions
+pub mod Shapes
+pub mod Trees
+pub mod Project
+pub mod Commands
+pub mod Texts

@@ -1,0 +1,28 @@
+-- Trees: a function as a list of its values at the cells of a depth, with a shape.
+use Rattle.std.specs.Prelude.{◌≡◌, ℕ, ◌^◌, Bool, true, List, [], ◌∷◌, length, take, drop, ℤ, pos, ◌+ℤ◌}
+use Rattle.std.specs.List.{slice_get}
+use Rattle.tree_key.specs.Keys.{Key, width, first_cell, InBox}
+use Rattle.tree_model.specs.Shapes.{IsShape, is_leaf}
+
+pub record Tree : Type 0 where
+  pub depth : ℕ
+  pub cells : List ℤ
+  pub shape : Key → Bool
+
+-- the list has a value for each cell, the shape is one, and the list is constant on the box of each leaf
+pub record IsTree (t : Tree) : Type 0 where
+  pub cells : length t.cells ≡ 2 ^ t.depth
+  pub shape : IsShape t.depth t.shape
+  pub constant : (leaf : Key) (cell : ℕ) → is_leaf t.shape leaf ≡ true → InBox t.depth leaf cell → slice_get t.cells cell ≡ slice_get t.cells (first_cell t.depth leaf)
+
+-- the sum of a list
+abbrev pub total : List ℤ → ℤ
+total [] = pos 0
+total (z ∷ zs) = z +ℤ total zs
+
+-- the values on the box of a key, and their sum
+abbrev pub box_values : Tree → Key → List ℤ
+box_values t k = take (width t.depth k) (drop (first_cell t.depth k) t.cells)
+
+abbrev pub box_sum : Tree → Key → ℤ
+box_sum t k = total (box_values t k)
