@@ -8,9 +8,9 @@ pub data Function : Type 0 where
   Ramp : (start slope : ℤ) → Function
 
 -- the value at a cell
-abbrev pub value : Function → ℕ → ℤ
-value (Const constant) cell = constant
-value (Ramp start slope) cell = start +ℤ slope *ℤ pos cell
+abbrev pub value_at : Function → ℕ → ℤ
+value_at (Const constant) cell = constant
+value_at (Ramp start slope) cell = start +ℤ slope *ℤ pos cell
 
 -- the largest depth: 65,536 cells
 abbrev pub max_depth : ℕ
@@ -30,4 +30,4 @@ is_value z = nat_le (unsigned_abs z) max_value
 abbrev pub fits : ℕ → Function → Bool
 fits depth (Const constant) = nat_le depth max_depth && is_value constant
 fits depth (Ramp start slope) =
-    nat_le depth max_depth && (nat_le (unsigned_abs slope) max_difference && (is_value start && is_value (value (Ramp start slope) (2 ^ depth - 1))))
+    nat_le depth max_depth && (nat_le (unsigned_abs slope) max_difference && (is_value start && is_value (value_at (Ramp start slope) (2 ^ depth - 1))))

@@ -4,7 +4,7 @@ use Rattle.std.specs.Prelude.{ℕ, ◌+◌, ◌^◌, Bool, false, true, ◌&&◌
 use Rattle.std.specs.Int.RustNames.{unsigned_abs}
 use Rattle.std.specs.List.{list_all, position_or_len, range_with_len}
 use Rattle.tree_key.specs.Keys.{Key, child, ancestor, first_cell}
-use Rattle.tree_model.specs.Functions.{Function, value}
+use Rattle.tree_model.specs.Functions.{Function, value_at}
 use Rattle.tree_model.specs.Shapes.{is_key_of, is_leaf, key_over}
 use Rattle.tree_model.specs.Trees.{Tree}
 
@@ -17,7 +17,7 @@ pub record Projection : Type 0 where
 -- whether the values at the first cells of the two halves differ by more than the tolerance
 abbrev pub differs : ℕ → Projection → Key → Bool
 differs depth p k =
-    nat_lt p.tolerance (unsigned_abs (value p.function (first_cell depth (child k false)) -ℤ value p.function (first_cell depth (child k true))))
+    nat_lt p.tolerance (unsigned_abs (value_at p.function (first_cell depth (child k false)) -ℤ value_at p.function (first_cell depth (child k true))))
 
 -- whether a key is split: only above the deepest level, and there above the level asked for or where the halves differ
 abbrev pub is_split : ℕ → Projection → Key → Bool
@@ -34,7 +34,7 @@ leaf_over depth shape cell =
 
 abbrev pub projected_cells : ℕ → Projection → List ℤ
 projected_cells depth p =
-    map (λ cell. value p.function (first_cell depth (leaf_over depth (projected_shape depth p) cell))) (range_with_len 0 (2 ^ depth))
+    map (λ cell. value_at p.function (first_cell depth (leaf_over depth (projected_shape depth p) cell))) (range_with_len 0 (2 ^ depth))
 
 abbrev pub projected : ℕ → Projection → Tree
 projected depth p = record { depth = depth; cells = projected_cells depth p; shape = projected_shape depth p }

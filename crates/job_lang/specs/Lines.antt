@@ -1,0 +1,17 @@
+-- Lines and words of a job's text. Its lines are std's `lines`: each ends with a line feed, and one carriage return right
+-- before it belongs to its end; what follows the last line feed is a line too, if it isn't empty.
+use Rattle.std.specs.Prelude.{ℕ, ◌==◌, ◌||◌, nat_lt, Bool, true, List, [], ◌∷◌, length, filter, slice_index}
+use Rattle.std.specs.List.{slice_split}
+
+-- a space or a tab
+abbrev pub is_blank : ℕ → Bool
+is_blank byte = (byte == 32) || (byte == 9)
+
+-- the parts of a line between blanks that aren't empty
+abbrev pub words : List ℕ → List (List ℕ)
+words line = filter (λ word. nat_lt 0 (length word)) (slice_split is_blank line)
+
+-- whether a line is passed over: it has no words, or `#` is its first byte after blanks
+abbrev pub is_passed_over : List (List ℕ) → Bool
+is_passed_over [] = true
+is_passed_over (word ∷ rest) = slice_index word 0 == 35
