@@ -1,1 +1,7 @@
 pub mod FunctionLaws
+pub mod Ranges
+pub mod Lists
+pub mod Ancestors
+pub mod Rows
+pub mod Leaves
+pub mod Projected

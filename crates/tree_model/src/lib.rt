@@ -4,3 +4,9 @@
 #![tactic(auto)]
 
 mod examples;
+mod laws;
+
+pub use laws::{
+    leaves_are_constant, leaves_follow, projections_are_trees, rows_follow,
+    values_stay_within_limits,
+};

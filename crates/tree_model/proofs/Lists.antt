@@ -1,0 +1,60 @@
+-- Filters, maps and flat maps of lists, one after another.
+use Rattle.std.proofs.Common.{◌≡◌, List, [], ◌∷◌, ◌++◌, map, filter, Bool, true, false, cond, refl, sym, ◌∙◌, ap, append_assoc}
+use Rattle.std.specs.List.{flat_map}
+use Rattle.std.specs.List.{AllByRecursion}
+use Rattle.std.proofs.lemmas.List.{map-append}
+use Rattle.std.proofs.lemmas.List.Elements.{filter-append}
+
+-- a filter of lists joined is the filters joined
+pub filter-flat_map : {X Y : Type 0} (p : Y → Bool) (f : X → List Y) (xs : List X) → filter p (flat_map f xs) ≡ flat_map (λ x. filter p (f x)) xs
+filter-flat_map p f [] = refl
+filter-flat_map p f (x ∷ xs) = filter-append p (f x) (flat_map f xs) ∙ ap (λ rest. filter p (f x) ++ rest) (filter-flat_map p f xs)
+
+pub map-flat_map : {X Y Z : Type 0} (g : Y → Z) (f : X → List Y) (xs : List X) → map g (flat_map f xs) ≡ flat_map (λ x. map g (f x)) xs
+map-flat_map g f [] = refl
+map-flat_map g f (x ∷ xs) = map-append g (f x) (flat_map f xs) ∙ ap (λ rest. map g (f x) ++ rest) (map-flat_map g f xs)
+
+pub flat_map-flat_map : {X Y Z : Type 0} (g : Y → List Z) (f : X → List Y) (xs : List X) → flat_map g (flat_map f xs) ≡ flat_map (λ x. flat_map g (f x)) xs
+flat_map-flat_map g f [] = refl
+flat_map-flat_map {X} {Y} {Z} g f (x ∷ xs) = flat_map-joined g (f x) (flat_map f xs) ∙ ap (λ rest. flat_map g (f x) ++ rest) (flat_map-flat_map g f xs)
+  where
+    flat_map-joined : (g : Y → List Z) (ys zs : List Y) → flat_map g (ys ++ zs) ≡ flat_map g ys ++ flat_map g zs
+    flat_map-joined g [] zs = refl
+    flat_map-joined g (y ∷ ys) zs = ap (λ rest. g y ++ rest) (flat_map-joined g ys zs) ∙ sym (append_assoc (g y) (flat_map g ys) (flat_map g zs))
+
+-- functions that agree on each element make the same list
+pub flat_map-agree : {X Y : Type 0} (f g : X → List Y) (xs : List X) → AllByRecursion (λ x. f x ≡ g x) xs → flat_map f xs ≡ flat_map g xs
+flat_map-agree f g [] all = refl
+flat_map-agree f g (x ∷ xs) all = rw all.0 (ap (λ rest. g x ++ rest) (flat_map-agree f g xs all.1))
+
+pub filter-agree : {X : Type 0} (p q : X → Bool) (xs : List X) → AllByRecursion (λ x. p x ≡ q x) xs → filter p xs ≡ filter q xs
+filter-agree p q [] all = refl
+filter-agree p q (x ∷ xs) all = rw all.0 (ap (λ rest. cond (q x) (x ∷ rest) rest) (filter-agree p q xs all.1))
+
+pub map-agree : {X Y : Type 0} (f g : X → Y) (xs : List X) → AllByRecursion (λ x. f x ≡ g x) xs → map f xs ≡ map g xs
+map-agree f g [] all = refl
+map-agree f g (x ∷ xs) all = rw all.0 (ap (λ rest. g x ∷ rest) (map-agree f g xs all.1))
+
+-- a flat map over what a filter keeps
+pub flat_map-filter : {X Y : Type 0} (f : X → List Y) (p : X → Bool) (xs : List X) → flat_map f (filter p xs) ≡ flat_map (λ x. cond (p x) (f x) []) xs
+flat_map-filter f p [] = refl
+flat_map-filter f p (x ∷ xs) = elim (p x) as (λ b. flat_map f (cond b (x ∷ filter p xs) (filter p xs)) ≡ cond b (f x) [] ++ flat_map (λ y. cond (p y) (f y) []) xs) [
+  | true ↦ ap (λ rest. f x ++ rest) (flat_map-filter f p xs)
+  | false ↦ flat_map-filter f p xs
+]
+
+-- a filter of what a filter keeps
+pub filter-filter : {X : Type 0} (p q : X → Bool) (xs : List X) → filter p (filter q xs) ≡ filter (λ x. cond (q x) (p x) false) xs
+filter-filter p q [] = refl
+filter-filter p q (x ∷ xs) = elim (q x) as (λ b. filter p (cond b (x ∷ filter q xs) (filter q xs)) ≡ cond (cond b (p x) false) (x ∷ filter (λ y. cond (q y) (p y) false) xs) (filter (λ y. cond (q y) (p y) false) xs)) [
+  | true ↦ ap (λ rest. cond (p x) (x ∷ rest) rest) (filter-filter p q xs)
+  | false ↦ filter-filter p q xs
+]
+
+-- what holds of all elements, and of each that a filter keeps
+pub all-filter : {X : Type 0} (P : X → Type 0) (p : X → Bool) (xs : List X) → AllByRecursion (λ x. p x ≡ true → P x) xs → AllByRecursion P (filter p xs)
+all-filter P p [] all = all
+all-filter P p (x ∷ xs) all = elim (p x) as (λ b. (b ≡ true → P x) → AllByRecursion P (cond b (x ∷ filter p xs) (filter p xs))) [
+  | true ↦ λ here. (here refl, all-filter P p xs all.1)
+  | false ↦ λ here. all-filter P p xs all.1
+] all.0

@@ -1,0 +1,34 @@
+-- What holds of the definitions, as one statement each.
+use Rattle.std.specs.Prelude.{◌≡◌, ℕ, ◌+◌, ◌^◌, ◌<◌, ◌≤◌, true, [], ◌∷◌, ◌++◌, map, pos, ◌*ℤ◌}
+use Rattle.std.specs.Int.RustNames.{unsigned_abs}
+use Rattle.std.specs.List.{flat_map}
+use Rattle.tree_key.specs.Keys.{Key, root, width, first_cell}
+use Rattle.tree_model.specs.Functions.{Function, value_at, fits, max_value}
+use Rattle.tree_model.specs.Shapes.{is_leaf}
+use Rattle.tree_model.specs.Trees.{IsTree, box_sum}
+use Rattle.tree_model.specs.Project.{Projection, projected}
+use Rattle.tree_model.specs.Rows.{row, halves, whole_keys, with_sum, leaf_sums, leaf_sums_above}
+
+-- at each cell a function that fits has a value that a cell may have
+abbrev pub ValuesStayWithin : Type 0
+ValuesStayWithin = (depth : ℕ) (f : Function) (cell : ℕ) → fits depth f ≡ true → cell < 2 ^ depth → unsigned_abs (value_at f cell) ≤ max_value
+
+-- what `project` makes is a tree
+abbrev pub ProjectionsAreTrees : Type 0
+ProjectionsAreTrees = (depth : ℕ) (p : Projection) → IsTree (projected depth p)
+
+-- the sum over a leaf's box is its width times the value at its first cell
+abbrev pub LeavesAreConstant : Type 0
+LeavesAreConstant = (depth : ℕ) (p : Projection) (k : Key) → is_leaf (projected depth p).shape k ≡ true → box_sum (projected depth p) k ≡ pos (width depth k) *ℤ value_at p.function (first_cell depth k)
+
+-- level by level: the first row is the root, each row is the children of the split keys of the row above it, and there is
+-- no row below the depth
+pub record RowsFollow : Type 0 where
+  pub first : (depth : ℕ) (p : Projection) → row depth p 0 ≡ root ∷ []
+  pub next : (depth : ℕ) (p : Projection) (level : ℕ) → flat_map (halves depth p) (row depth p level) ≡ row depth p (level + 1)
+
+-- level by level: the leaves are the keys of the rows that aren't split
+pub record LeavesFollow : Type 0 where
+  pub first : (depth : ℕ) (p : Projection) → leaf_sums_above (projected depth p) 0 ≡ []
+  pub next : (depth : ℕ) (p : Projection) (level : ℕ) → leaf_sums_above (projected depth p) (level + 1) ≡ leaf_sums_above (projected depth p) level ++ map (with_sum (projected depth p)) (whole_keys depth p (row depth p level))
+  pub all : (depth : ℕ) (p : Projection) → leaf_sums_above (projected depth p) (depth + 1) ≡ leaf_sums (projected depth p)
