@@ -5,3 +5,8 @@ pub mod Grammar
 pub mod Checks
 pub mod Reading
 pub mod Data
+pub mod Slices
+pub mod Limits
+pub mod Code
+pub mod Accepted
+pub mod Faults

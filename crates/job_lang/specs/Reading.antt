@@ -5,7 +5,7 @@ use Rattle.tree_model.specs.Commands.{Command}
 use Rattle.tree_model.specs.Texts.{JobData}
 use Rattle.job_lang.specs.declared.fault.JobFault.{JobFault}
 use Rattle.job_lang.specs.Lines.{words, is_passed_over}
-use Rattle.job_lang.specs.Grammar.{◌>>=◌, header_of, form_of, command_of_form}
+use Rattle.job_lang.specs.Grammar.{Words, ◌>>=◌, header_of, form_of, command_of_form}
 use Rattle.job_lang.specs.Checks.{is_accepted}
 
 -- the kinds of fault: no header, and a line that isn't an accepted command
@@ -15,12 +15,15 @@ header_fault = 2
 abbrev pub command_fault : ℕ
 command_fault = 3
 
--- the command of a line that may stand behind the commands before it, at the job's depth
-abbrev pub command_of_line : ℕ → List Command → List ℕ → Option Command
-command_of_line depth before line = do
-  form ← form_of (words line)
+-- the command of a line's words that may stand behind the commands before it, at the job's depth
+abbrev pub command_of_words : ℕ → List Command → Words → Option Command
+command_of_words depth before words = do
+  form ← form_of words
   command ← command_of_form form
   if is_accepted depth before command then Some command else None
+
+abbrev pub command_of_line : ℕ → List Command → List ℕ → Option Command
+command_of_line depth before line = command_of_words depth before (words line)
 
 -- a value, or else the fault of this kind on the line
 abbrev pub or_fault : {A : Type 0} → ℕ → ℕ → Option A → Result A JobFault

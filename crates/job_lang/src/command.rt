@@ -1,3 +1,8 @@
+ghost use Rattle.std.specs.Prelude.{◌≡◌};
+ghost use Rattle.std.specs.List.{list_any};
+ghost use Rattle.std.specs.Str.{bytes_eq};
+ghost use Rattle.tree_model.specs.Commands.{writes};
+
 use haar_node::Func;
 use tree_key::Text;
 
@@ -16,4 +21,31 @@ pub enum Command {
     Print {
         name: Text,
     },
+}
+
+// Whether two texts are equal.
+fn is_same_text(a: &[u8], b: &[u8]) -> bool
+    ensures { result ≡ bytes_eq a.now b.now }
+{
+    a == b
+}
+
+impl Command {
+    ghost use Rattle.job_lang.specs.Data.{data_of};
+
+    /// Whether the command writes the tree of this name.
+    pub fn writes(&self, name: &[u8]) -> bool
+        ensures { result ≡ writes name.now (data_of self.now) }
+    {
+        match self {
+            Command::Project { name: written, .. } => is_same_text(name, written.bytes()),
+            Command::Print { .. } => false,
+        }
+    }
+    /// Whether one of the commands writes the tree of this name.
+    pub fn any_writes(commands: &[Command], name: &[u8]) -> bool
+        ensures { result ≡ list_any (λ c. writes name.now (data_of c)) commands.now }
+    {
+        commands.iter().any(|command| command.writes(name))
+    }
 }

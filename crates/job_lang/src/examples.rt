@@ -1,7 +1,10 @@
 //! The reading of bytes, computed on small texts. What is expected was worked out by hand.
-ghost use Rattle.std.specs.Prelude.{◌≡◌, [], ◌∷◌, Ok, Err, codes, pos};
-ghost use Rattle.tree_model.specs.Functions.Function.{Ramp};
+ghost use Rattle.std.specs.Prelude.{◌≡◌, true, false, [], ◌∷◌, ◌++◌, Some, None, Ok, Err, codes, pos, negsuc};
+ghost use Rattle.tree_model.specs.Functions.Function.{Const, Ramp};
 ghost use Rattle.tree_model.specs.Commands.Command.{Project, Print};
+ghost use Rattle.job_lang.specs.Faults.{fault_line};
+ghost use Rattle.job_lang.specs.Names.{is_name};
+ghost use Rattle.job_lang.specs.Numbers.{number};
 ghost use Rattle.job_lang.specs.Reading.{reading_of};
 
 /// Without any line the header is missing on line 1.
@@ -18,4 +21,72 @@ pub fn projects_and_prints()
 /// Lines that are passed over keep their numbers, and a line may end with a carriage return.
 pub fn unknown_tree()
     ensures { reading_of (codes "job 1\tdepth 02\r\n\n # a\nprint f") ≡ Err (record { line = 4; kind = 3 }) }
+{}
+
+/// A number has 1 to 18 digits, and one minus may stand before them.
+pub fn whole_numbers()
+    ensures zero { number (codes "-0") ≡ Some (pos 0) }
+    ensures leading_zeros { number (codes "007") ≡ Some (pos 7) }
+    ensures most_digits { number (codes "999999999999999999") ≡ Some (pos 999999999999999999) }
+    ensures least { number (codes "-999999999999999999") ≡ Some (negsuc 999999999999999998) }
+    ensures too_many_digits { number (codes "0000000000000000001") ≡ None }
+    ensures no_digit { number (codes "-") ≡ None }
+    ensures two_minuses { number (codes "--1") ≡ None }
+    ensures plus { number (codes "+1") ≡ None }
+{}
+
+/// A name begins with a letter and has at most 16 bytes.
+pub fn names()
+    ensures longest { is_name (codes "abcdefghijklm_09") ≡ true }
+    ensures too_long { is_name (codes "abcdefghijklm_090") ≡ false }
+    ensures digit_first { is_name (codes "0a") ≡ false }
+    ensures capital { is_name (codes "aB") ≡ false }
+{}
+
+/// The header may be the only line; its depth is at most 16.
+pub fn headers()
+    ensures alone { reading_of (codes "job 1 depth 16") ≡ Ok (record { depth = 16; commands = [] }) }
+    ensures too_deep { reading_of (codes "job 1 depth 17") ≡ Err (record { line = 1; kind = 2 }) }
+    ensures negative { reading_of (codes "job 1 depth -1") ≡ Err (record { line = 1; kind = 2 }) }
+    ensures other_version { reading_of (codes "# a\njob 2 depth 1") ≡ Err (record { line = 2; kind = 2 }) }
+    ensures one_word_more { reading_of (codes "job 1 depth 1 x") ≡ Err (record { line = 1; kind = 2 }) }
+    ensures only_comments { reading_of (codes "# a\n# b\n") ≡ Err (record { line = 3; kind = 2 }) }
+{}
+
+/// A carriage return belongs to a line's end only before a line feed, and `#` after blanks begins a comment.
+pub fn ends_of_lines()
+    ensures return_at_end { reading_of (codes "job 1 depth 0\r") ≡ Err (record { line = 1; kind = 2 }) }
+    ensures return_before_feed { reading_of (codes "job 1 depth 0\r\n \t#x y\r\n") ≡ Ok (record { depth = 0; commands = [] }) }
+    ensures return_within { reading_of (codes "job 1 depth 0\n\r\r\n") ≡ Err (record { line = 2; kind = 3 }) }
+{}
+
+/// A byte that no form has is a fault of its line, and none in a comment.
+pub fn foreign_bytes()
+    ensures in_header { reading_of (codes "job 1 depth 0" ++ 200 ∷ codes "\n") ≡ Err (record { line = 1; kind = 2 }) }
+    ensures in_a_command { reading_of (codes "job 1 depth 0\n" ++ 0 ∷ 200 ∷ []) ≡ Err (record { line = 2; kind = 3 }) }
+    ensures in_a_comment { reading_of (codes "#" ++ 200 ∷ 0 ∷ codes "\njob 1 depth 0") ≡ Ok (record { depth = 0; commands = [] }) }
+{}
+
+/// The limits of a line's numbers, at depth 1.
+pub fn limits()
+    ensures steepest { reading_of (codes "job 1 depth 1\nproject f ramp 0 16777216 level 0 tol 0") ≡ Ok (record { depth = 1; commands = Project (codes "f") (record { function = Ramp (pos 0) (pos 16777216); level = 0; tolerance = 0 }) ∷ [] }) }
+    ensures too_steep { reading_of (codes "job 1 depth 1\nproject f ramp 0 16777217 level 0 tol 0") ≡ Err (record { line = 2; kind = 3 }) }
+    ensures smallest { reading_of (codes "job 1 depth 1\nproject f const -16777216 level 1 tol 33554432") ≡ Ok (record { depth = 1; commands = Project (codes "f") (record { function = Const (negsuc 16777215); level = 1; tolerance = 33554432 }) ∷ [] }) }
+    ensures too_small { reading_of (codes "job 1 depth 1\nproject f const -16777217 level 1 tol 0") ≡ Err (record { line = 2; kind = 3 }) }
+    ensures level_above_depth { reading_of (codes "job 1 depth 1\nproject f const 0 level 2 tol 0") ≡ Err (record { line = 2; kind = 3 }) }
+    ensures negative_tolerance { reading_of (codes "job 1 depth 1\nproject f const 0 level 0 tol -1") ≡ Err (record { line = 2; kind = 3 }) }
+    ensures negative_zero { reading_of (codes "job 1 depth 1\nproject f const -0 level -0 tol -0") ≡ Ok (record { depth = 1; commands = Project (codes "f") (record { function = Const (pos 0); level = 0; tolerance = 0 }) ∷ [] }) }
+{}
+
+/// A tree may be written again, and is printed only behind a command that writes it.
+pub fn order_of_commands()
+    ensures written_twice { reading_of (codes "job 1 depth 0\nproject f const 1 level 0 tol 0\nproject f const 2 level 0 tol 0\nprint f") ≡ Ok (record { depth = 0; commands = Project (codes "f") (record { function = Const (pos 1); level = 0; tolerance = 0 }) ∷ Project (codes "f") (record { function = Const (pos 2); level = 0; tolerance = 0 }) ∷ Print (codes "f") ∷ [] }) }
+    ensures printed_before { reading_of (codes "job 1 depth 0\nprint f\nproject f const 1 level 0 tol 0") ≡ Err (record { line = 2; kind = 3 }) }
+    ensures first_fault { reading_of (codes "job 1 depth 0\n\nprnt f\nprint g") ≡ Err (record { line = 3; kind = 3 }) }
+{}
+
+/// The lines that tell faults.
+pub fn fault_lines()
+    ensures command { fault_line (record { line = 4; kind = 3 }) ≡ codes "fault line 4 F3 unknown command" }
+    ensures header { fault_line (record { line = 1048577; kind = 2 }) ≡ codes "fault line 1048577 F2 header" }
 {}

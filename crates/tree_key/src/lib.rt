@@ -1,10 +1,13 @@
 //! Keys of a dyadic tree, and the bytes of a text.
 //!
-//! A key names a box of cells: the root's box is all of them, and each key below the deepest level has two
+//! A key names a box of cells: the root's box is all of them, and each key above the deepest level has two
 //! children, which halve its box. The names are those of MADNESS, whose keys are a level and a translation.
+//!
+//! `specs/Keys.antt` defines what the calls answer, and [`laws`] says what holds of all keys and boxes.
 #![tactic(auto)]
 
 mod key;
+pub mod laws;
 mod text;
 
 pub use key::Key;

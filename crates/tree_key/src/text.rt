@@ -1,6 +1,7 @@
-ghost use Rattle.std.specs.Prelude.{◌≡◌, [], ◌++◌, OnOk, OnErr};
+ghost use Rattle.std.specs.Prelude.{◌≡◌, [], ◌++◌, OnOk, OnErr, codes, Some};
 
-use std::alloc::Global;
+use std::alloc::{AllocError, AllocFailed, Global};
+use std::error::Error;
 use std::fmt;
 use std::marker::Model;
 
@@ -9,8 +10,29 @@ use std::marker::Model;
 pub struct OutOfMemory;
 
 impl fmt::Display for OutOfMemory {
+    ghost output = { λ _. Some (codes "out of memory") };
+
     fn fmt<W: fmt::Write>(&self, f: &mut fmt::Formatter<W>) -> fmt::Result {
         write!(f, "out of memory")
+    }
+}
+
+impl Error for OutOfMemory {}
+
+impl From<AllocError> for OutOfMemory {
+    ghost from_gives = { λ _ e. e ≡ record {} };
+
+    fn from(_error: AllocError) -> OutOfMemory {
+        OutOfMemory
+    }
+}
+
+// So that `?` serves after `push` too; the value that wasn't stored is dropped.
+impl<T: Drop> From<AllocFailed<T>> for OutOfMemory {
+    ghost from_gives = { λ _ e. e ≡ record {} };
+
+    fn from(_refused: AllocFailed<T>) -> OutOfMemory {
+        OutOfMemory
     }
 }
 
@@ -29,7 +51,7 @@ impl Model for Text {
 }
 
 impl Text {
-    /// A text without bytes. It takes no memory.
+    /// A text without bytes. It takes no memory yet; `alloc` is where it will come from.
     pub fn new(alloc: Global) -> Text
         ensures { result ≡ [] }
     {
@@ -38,14 +60,12 @@ impl Text {
         }
     }
 
-    /// Adds the bytes at the end. A refusal leaves the text as it was.
+    /// Adds the bytes at the end. `OutOfMemory` where no memory is left for them: the text is then as it was.
     pub fn add(&mut self, bytes: &[u8]) -> Result<(), OutOfMemory>
         ensures ok { OnOk result (self.new ≡ self.old ++ bytes.now) }
         ensures err { OnErr result (self.new ≡ self.old) }
     {
-        if self.bytes.extend_from_slice(bytes).is_err() {
-            return Err(OutOfMemory);
-        }
+        self.bytes.extend_from_slice(bytes)?;
         Ok(())
     }
 
@@ -54,5 +74,30 @@ impl Text {
         ensures { result.now ≡ self.now }
     {
         self.bytes.as_slice()
+    }
+}
+
+#[cfg(test)]
+mod tests {
+    use super::*;
+    use std::test::Fail;
+
+    // No clause can say that memory is left, so a body that always refuses would meet those of `add`.
+    #[test]
+    fn pieces_follow_one_another(rt: HostRuntime) -> Result<(), Fail> {
+        let mut text = Text::new(rt.alloc());
+        assert_eq!(rt; text.bytes(), b"".as_slice());
+        text.add(b"3 ")?;
+        text.add(b"5\n")?;
+        assert_eq!(rt; text.bytes(), b"3 5\n".as_slice());
+        Ok(())
+    }
+
+    #[test]
+    fn a_want_of_memory_has_a_text(rt: HostRuntime) -> Result<(), Fail> {
+        let refused = OutOfMemory::from(AllocError);
+        assert_eq!(rt; OutOfMemory::from(AllocFailed { value: 7u8 }), refused);
+        assert_eq!(rt; refused.to_string(rt.alloc())?.as_str(), "out of memory");
+        Ok(())
     }
 }

@@ -5,3 +5,5 @@ pub mod Ancestors
 pub mod Rows
 pub mod Leaves
 pub mod Projected
+pub mod Order
+pub mod Steps

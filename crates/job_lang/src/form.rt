@@ -1,0 +1,85 @@
+//! The forms of lines, read from their words.
+ghost use Rattle.std.specs.Prelude.{◌≡◌, ◌≤◌, IfSome};
+ghost use Rattle.std.specs.Option.{option_map};
+ghost use Rattle.job_lang.specs.Grammar.{header_of, project_of, print_of, form_of};
+ghost use Rattle.job_lang.specs.Slices.{texts};
+
+use crate::fields::{function_at, keyword, name_at, no_more, number_at, size_at};
+use crate::names::Name;
+use haar_node::Func;
+
+/// A line of a job as its words say it, with any numbers.
+#[derive(Clone, Copy)]
+pub enum Form<'a> {
+    /// `project NAME FUNC level N tol T`
+    Project {
+        name: Name<'a>,
+        function: Func,
+        level: i64,
+        tolerance: i64,
+    },
+    /// `print NAME`
+    Print {
+        name: Name<'a>,
+    },
+}
+
+const MAX_DEPTH: u64 = 16;
+
+/// The depth that the header `job 1 depth D` tells. None exactly where the words aren't that, or the depth is above 16.
+pub fn header_of(words: &[&[u8]]) -> Option<u8>
+    ensures value { result ≡ header_of (texts words.now) }
+    ensures small { IfSome result (λ d. d ≤ 16) }
+{
+    let words = keyword(b"job", words)?;
+    let words = keyword(b"1", words)?;
+    let words = keyword(b"depth", words)?;
+    let (depth, words) = size_at(words)?;
+    no_more(words)?;
+    if depth <= MAX_DEPTH {
+        Some(depth as u8)
+    } else {
+        None
+    }
+}
+
+impl<'a> Form<'a> {
+    ghost use Rattle.job_lang.specs.Code.{form_data};
+
+    /// `project NAME FUNC level N tol T`. None exactly where the words aren't that.
+    pub fn project_of(words: &[&'a [u8]]) -> Option<Form<'a>>
+        ensures { option_map form_data result ≡ project_of (texts words.now) }
+    {
+        let words = keyword(b"project", words)?;
+        let (name, words) = name_at(words)?;
+        let (function, words) = function_at(words)?;
+        let words = keyword(b"level", words)?;
+        let (level, words) = number_at(words)?;
+        let words = keyword(b"tol", words)?;
+        let (tolerance, words) = number_at(words)?;
+        no_more(words)?;
+        Some(Form::Project {
+            name,
+            function,
+            level,
+            tolerance,
+        })
+    }
+
+    /// `print NAME`. None exactly where the words aren't that.
+    pub fn print_of(words: &[&'a [u8]]) -> Option<Form<'a>>
+        ensures { option_map form_data result ≡ print_of (texts words.now) }
+    {
+        let words = keyword(b"print", words)?;
+        let (name, words) = name_at(words)?;
+        no_more(words)?;
+        Some(Form::Print { name })
+    }
+
+    /// The form of a line's words. None exactly where they have none.
+    pub fn of_words(words: &[&'a [u8]]) -> Option<Form<'a>>
+        ensures { option_map form_data result ≡ form_of (texts words.now) }
+    {
+        Form::project_of(words).or_else(|| Form::print_of(words))
+    }
+}

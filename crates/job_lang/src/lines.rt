@@ -1,0 +1,56 @@
+ghost use Rattle.std.specs.Prelude.{◌≡◌, ◌∷◌, [], ◌<◌, ◌==◌, IfOk, MatchOption, IfSome, length, map, position};
+ghost use Rattle.std.specs.Str.Lines.{lines, strip_carriage_return};
+ghost use Rattle.job_lang.specs.Lines.{words, is_passed_over};
+
+use std::alloc::{AllocError, Global};
+
+// The line without a carriage return at its end.
+fn strip_return(line: &[u8]) -> &[u8]
+    ensures { result.now ≡ strip_carriage_return line.now }
+{
+    match line {
+        [front @ .., b'\r'] => front,
+        _ => line,
+    }
+}
+
+// Where the first line feed stands.
+fn line_feed(text: &[u8]) -> Option<usize>
+    ensures { result ≡ position (λ byte. byte == 10) text.now }
+{
+    text.iter().position(|byte| *byte == b'\n')
+}
+
+/// The first line of a text, and the text behind it. None exactly where the text is empty.
+pub fn next_line(text: &[u8]) -> Option<(&[u8], &[u8])>
+    ensures first { MatchOption result (lines text.now ≡ []) (λ r. lines text.now ≡ r.0.now ∷ lines r.1.now) }
+    ensures shorter { IfSome result (λ r. length r.1.now < length text.now) }
+{
+    let Some(at) = line_feed(text) else {
+        if text.is_empty() {
+            return None;
+        }
+        return Some((text, &text[text.len()..]));
+    };
+    let line = strip_return(&text[..at]);
+    Some((line, &text[at + 1..]))
+}
+
+/// The words of a line, as slices of it.
+pub fn words_of(alloc: Global, line: &[u8]) -> Result<Vec<&[u8]>, AllocError>
+    ensures { IfOk result (λ v. map (λ w. w.now) v.items ≡ words line.now) }
+{
+    line.split(|byte| *byte == b' ' || *byte == b'\t')
+        .filter(|word| !word.is_empty())
+        .collect(alloc)
+}
+
+/// Whether a line of these words is passed over: it has none, or is a comment.
+pub fn is_passed_over(words: &[&[u8]]) -> bool
+    ensures { result ≡ is_passed_over (map (λ w. w.now) words.now) }
+{
+    match words {
+        [] => true,
+        [first, ..] => matches!(first, [b'#', ..]),
+    }
+}

@@ -1,0 +1,86 @@
+ghost use Rattle.std.specs.Prelude.{◌≡◌, ◌+◌, ◌<◌, ◌≤◌, ◌^◌, ℕ, List, [], length, IfOk};
+ghost use Rattle.std.specs.Str.Lines.{lines};
+ghost use Rattle.tree_model.specs.Texts.{JobData};
+ghost use Rattle.job_lang.specs.declared.fault.JobFault.{JobFault as FaultData};
+ghost use Rattle.job_lang.specs.Reading.{header_from, commands_from, reading_of};
+
+use crate::accepted::Accepted;
+use crate::fault::JobFault;
+use crate::form::header_of;
+use crate::job::Job;
+use crate::lines::{is_passed_over, next_line, words_of};
+use crate::parse_error::ParseError;
+use std::alloc::Global;
+
+const HEADER_FAULT: u8 = 2;
+
+/// What the header tells, and the text behind it.
+#[derive(Clone, Copy)]
+struct Header<'a> {
+    depth: u8,
+    number: u64,
+    rest: &'a [u8],
+}
+
+// The first line that isn't passed over has to be the header.
+fn header_from(alloc: Global, text: &[u8]) -> Result<Header, ParseError>
+    ensures ok { IfOk result (λ h. header_from 1 (lines text.now) ≡ Ok (record { depth = h.depth; number = h.number; rest = lines h.rest.now })) }
+    ensures depth { IfOk result (λ h. h.depth ≤ 16) }
+    ensures number { IfOk result (λ h. h.number + length h.rest.now ≤ length text.now + 1) }
+    ensures fault { (fault : FaultData) → result ≡ Err (ParseError.Fault fault) → header_from 1 (lines text.now) ≡ Err fault }
+{
+    let mut rest = text;
+    let mut number = 1;
+    while let Some((line, behind)) = next_line(rest) {
+        let words = words_of(alloc, line)?;
+        if !is_passed_over(&words) {
+            let Some(depth) = header_of(&words) else {
+                break;
+            };
+            return Ok(Header {
+                depth,
+                number: number + 1,
+                rest: behind,
+            });
+        }
+        rest = behind;
+        number += 1;
+    }
+    Err(ParseError::Fault(JobFault {
+        line: number,
+        kind: HEADER_FAULT,
+    }))
+}
+
+// The commands of all lines, of which the first has this number.
+fn commands_from(alloc: Global, depth: u8, number: u64, text: &[u8]) -> Result<Accepted, ParseError>
+    requires depth { depth ≤ 16 }
+    requires number { number + length text.now < 2 ^ 64 }
+    ensures depth { IfOk result (λ a. a.depth ≡ depth) }
+    ensures ok { IfOk result (λ a. commands_from depth [] number (lines text.now) ≡ Ok a.commands) }
+    ensures fault { (fault : FaultData) → result ≡ Err (ParseError.Fault fault) → commands_from depth [] number (lines text.now) ≡ Err fault }
+{
+    let mut accepted = Accepted::new(alloc, depth);
+    let mut rest = text;
+    let mut number = number;
+    while let Some((line, behind)) = next_line(rest) {
+        accepted.take_line(alloc, number, line)?;
+        rest = behind;
+        number += 1;
+    }
+    Ok(accepted)
+}
+
+/// The job that a text is.
+///
+/// # Errors
+///
+/// `Fault` where the text isn't a job, with the first line that has a fault; `OutOfMemory` where there is no memory left.
+pub fn parse(alloc: Global, bytes: &[u8]) -> Result<Job, ParseError>
+    ensures job { IfOk result (λ job. reading_of bytes.now ≡ Ok job) }
+    ensures fault { (fault : FaultData) → result ≡ Err (ParseError.Fault fault) → reading_of bytes.now ≡ Err fault }
+{
+    let header = header_from(alloc, bytes)?;
+    let accepted = commands_from(alloc, header.depth, header.number, header.rest)?;
+    Ok(accepted.into_job())
+}

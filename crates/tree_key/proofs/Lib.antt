@@ -1,0 +1,5 @@
+pub mod PowerLemmas
+pub mod BoxLemmas
+pub mod FamilyLemmas
+pub mod OrderLemmas
+mod Examples
