@@ -1,8 +1,7 @@
 -- What the commands of a job mean, one after another.
-use Rattle.std.proofs.Common.{◌≡◌, ℕ, zero, suc, ◌+◌, ◌<◌, ◌≤◌, List, [], ◌∷◌, ◌++◌, length, map, take, drop, get_or, Bool, true, false, ◌&&◌, cond, Option, Some, None, Result, OnOk, IfOk, refl, sym, ◌∙◌, ap, arith, rules, ℤ, append_assoc, append-nil, add-one}
+use Rattle.std.proofs.Common.{◌≡◌, ℕ, zero, suc, ◌+◌, ◌<◌, List, [], ◌∷◌, ◌++◌, length, take, drop, get_or, Bool, true, false, cond, Option, Some, None, Result, OnOk, refl, sym, ◌∙◌, ap, arith, ℤ, add-one}
 use Rattle.std.specs.Prelude.{Ok, Err, codes}
 use Rattle.std.specs.Option.{option_map}
-use Rattle.std.specs.List.{flat_map}
 use Rattle.std.specs.Str.{bytes_eq}
 use Rattle.std.specs.Borrow.{Bor}
 use Rattle.std.specs.BTreeMap.{BTreeMap, is_at}
@@ -19,7 +18,7 @@ use Rattle.tree_model.specs.Commands.{Command, tree_behind, written, writes}
 use Rattle.tree_model.specs.Commands.Command.{Project, Print}
 use Rattle.tree_model.specs.Project.{Projection, projected}
 use Rattle.tree_model.specs.Rows.{leaf_sums, with_sum}
-use Rattle.tree_model.specs.Texts.{lines_of_tree, tree_lines, leaves, leaf_line, lines_behind, command_lines}
+use Rattle.tree_model.specs.Texts.{lines_of_tree, tree_lines, leaves, lines_behind, command_lines}
 use Rattle.tree_model.specs.Trees.{Tree}
 use Rattle.job_lang.specs.Checks.{is_accepted, is_within_limits, may_follow, are_accepted}
 use Rattle.world_cli.specs.Lines.{sum_line, sums_text}

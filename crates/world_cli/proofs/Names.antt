@@ -1,5 +1,5 @@
 -- Names are equal in either order.
-use Rattle.std.proofs.Common.{◌≡◌, ℕ, List, Bool, Decides, refl, sym}
+use Rattle.std.proofs.Common.{◌≡◌, ℕ, List, sym}
 use Rattle.std.specs.Str.{bytes_eq}
 use Rattle.std.proofs.lemmas.Slice.Eq.{bytes_eq-Decides}
 use Rattle.std.proofs.lemmas.Bool.Decides.{same_from_decides}

@@ -1,6 +1,11 @@
 //! The program `world` as one call: words, a source and a sink go in, and a status comes out.
 #![tactic(auto)]
 
+mod answer;
 mod evaluate;
 mod lines;
+mod program;
 mod projecting;
+mod status;
+
+pub use program::world_main;

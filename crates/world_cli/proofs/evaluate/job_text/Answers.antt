@@ -1,11 +1,9 @@
-use Rattle.std.proofs.Common.{◌≡◌, ◌+◌, ◌<◌, ◌≤◌, ◌++◌, [], ◌∷◌, List, map, take, drop, length, get_or, true, Option, Some, None, refl, sym, ◌∙◌, ap, subst, arith, append_assoc, append-nil}
-use Rattle.std.specs.Option.{option_map}
+use Rattle.std.proofs.Common.{◌≡◌, ◌+◌, ◌<◌, ◌++◌, [], map, take, drop, length, get_or, true, refl, sym, ◌∙◌, ap, subst, arith, append_assoc, append-nil}
 use Rattle.std.proofs.lemmas.List.{drop_all, get_or-map, length-map}
-use Rattle.tree_model.specs.Commands.{Command}
-use Rattle.tree_model.specs.Texts.{JobData, lines_behind, command_lines, job_text}
+use Rattle.tree_model.specs.Texts.{lines_behind, command_lines}
 use Rattle.job_lang.specs.Checks.{is_within_limits}
 use Rattle.job_lang.specs.Data.{data_of}
-use Rattle.world_cli.specs.Trees.{HasTrees, sums_at}
+use Rattle.world_cli.specs.Trees.{HasTrees}
 use Rattle.world_cli.proofs.Meaning.{has-no-trees, accepted-at, take-next, lines-step}
 use Rattle.world_cli.proofs.evaluate.job_text.Goals as goal
 
@@ -41,10 +39,10 @@ loop-command-preserved c =
     record {
       trees = subst (λ before. HasTrees c.depth-depth.result before c.run_command.new.trees) (sym next) (c.in_ok-run_command.ensures.trees (take i cs) has);
       text =
-        ap (λ text. text ++ lines_behind c.depth-depth.result (take (i + 1) cs) (drop (i + 1) cs)) (c.in_ok-run_command.ensures.text (take i cs) has)
-        ∙ append_assoc c.loop-command.text (command_lines c.depth-depth.result (take i cs) (data_of k)) (lines_behind c.depth-depth.result (take (i + 1) cs) (drop (i + 1) cs))
-        ∙ ap (λ rest. c.loop-command.text ++ rest) (sym step)
-        ∙ c.loop-command.invariant.text;
+          ap (λ text. text ++ lines_behind c.depth-depth.result (take (i + 1) cs) (drop (i + 1) cs)) (c.in_ok-run_command.ensures.text (take i cs) has)
+          ∙ append_assoc c.loop-command.text (command_lines c.depth-depth.result (take i cs) (data_of k)) (lines_behind c.depth-depth.result (take (i + 1) cs) (drop (i + 1) cs))
+          ∙ ap (λ rest. c.loop-command.text ++ rest) (sym step)
+          ∙ c.loop-command.invariant.text;
     }
 
 pub returns : goal.returns

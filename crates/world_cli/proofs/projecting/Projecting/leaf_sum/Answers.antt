@@ -1,6 +1,6 @@
-use Rattle.std.proofs.Common.{◌≡◌, ◌≤◌, ◌<◌, ◌^◌, ◌-◌, ◌*◌, ◌%◌, w64, pos, ◌*ℤ◌, ℤ, FitsSigned, arith, refl, ap, ◌∙◌}
+use Rattle.std.proofs.Common.{◌≡◌, ◌≤◌, ◌^◌, ◌-◌, w64, pos, arith, ap, ◌∙◌}
 use Rattle.std.specs.Int.RustNames.{unsigned_abs}
-use Rattle.std.proofs.lemmas.Int.{ints, fits_signed_mul, to_z-of_z}
+use Rattle.std.proofs.lemmas.Int.{fits_signed_mul, to_z-of_z}
 use Rattle.std.proofs.lemmas.Nat.{one_shl}
 use Rattle.std.proofs.Math.Pow.{pow_mono}
 use Rattle.tree_key.specs.Keys.{width}

@@ -1,0 +1,16 @@
+/// How a call of the program ends.
+#[derive(Clone, Copy, Debug, PartialEq, Eq)]
+pub enum Status {
+    /// The text was written.
+    Done = 0,
+    /// The words are in none of the listed forms.
+    Usage = 1,
+    /// The input isn't a job, or is too long.
+    JobFault = 2,
+    /// There was no memory; nothing was written.
+    OutOfMemory = 4,
+    /// A read failed; nothing was written.
+    ReadFault = 5,
+    /// A write failed; a front of the text was written.
+    WriteFault = 6,
+}
