@@ -1,5 +1,5 @@
-//! Where a program reads from and writes to: a [`Source`] and a [`Sink`] of bytes, each with a count
-//! of its faults, and [`read_all`] and [`write_all`] over them.
+//! Where a program reads from and writes to: a [`Source`] and a [`Sink`] of bytes, each with a
+//! count of its faults, and [`read_all`] and [`write_all`] over them.
 //!
 //! - [`MemSource`] and [`MemSink`] stand in memory, move few bytes a call, and fail as planned.
 //! - [`SureSource`] and [`SureSink`] stand in memory and never fail.

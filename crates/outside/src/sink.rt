@@ -20,8 +20,8 @@ pub trait Sink {
     /// Whether a piece may be written.
     ghost fits: { Self → List ℕ → Type 0 };
 
-    /// Takes a front of `bytes`, which fit, and answers its length: at least 1 where there is a byte.
-    /// The rest then fits.
+    /// Takes a front of `bytes`, which fit, and answers its length: at least 1 where there is a
+    /// byte. The rest then fits.
     ///
     /// # Errors
     ///

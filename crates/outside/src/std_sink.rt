@@ -8,7 +8,7 @@ use crate::source::Failed;
 use std::io;
 use std::marker::Model;
 
-/// A writer of std as a sink, with a count of its faults. It tells no content, and fits every piece.
+/// A writer of std as a sink, with a count of its faults. It tells no content and fits any piece.
 ///
 /// It never flushes, so give it a writer that keeps nothing back, as `io::writer(&rt)`.
 #[derive(Drop)]

@@ -14,8 +14,8 @@ use thiserror::Error;
 #[error("out of memory")]
 pub struct OutOfMemory;
 
-/// A sink in memory that never fails: its count of faults is always 0. It fits the pieces that are no
-/// longer than the room left, for which it has the memory.
+/// A sink in memory that never fails: its count of faults is always 0. It fits the pieces that are
+/// no longer than the room left, for which it has the memory.
 #[derive(Drop)]
 pub struct SureSink {
     bytes: Vec<u8>,

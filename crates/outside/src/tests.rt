@@ -90,7 +90,10 @@ fn reads_in_pieces_until_a_fault(rt: HostRuntime) -> Result<(), Fail> {
     assert_eq!(rt; read_all(alloc, &mut whole, 100)?.as_slice(), TEXT);
 
     let mut broken = MemSource::new(TEXT.to_vec(alloc)?, 16, vec![in alloc; 1]?);
-    assert_eq!(rt; read_all(alloc, &mut broken, 100).err(), Some(ReadAllError::ReadFault));
+    assert_eq!(rt;
+        read_all(alloc, &mut broken, 100).err(),
+        Some(ReadAllError::ReadFault)
+    );
     Ok(())
 }
 
@@ -131,7 +134,10 @@ fn reads_what_a_reader_gives(rt: HostRuntime) -> Result<(), Fail> {
     assert_eq!(rt; read_all(alloc, &mut source, 100)?.as_slice(), TEXT);
 
     let mut broken = StdSource::new(BrokenReader { is_broken: false });
-    assert_eq!(rt; read_all(alloc, &mut broken, 100).err(), Some(ReadAllError::ReadFault));
+    assert_eq!(rt;
+        read_all(alloc, &mut broken, 100).err(),
+        Some(ReadAllError::ReadFault)
+    );
     Ok(())
 }
 

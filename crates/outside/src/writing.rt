@@ -15,8 +15,8 @@ pub struct WriteFault;
 ///
 /// # Errors
 ///
-/// `WriteFault` only where the sink's count of faults rose, or stood at 2^64 - 1. The sink then took
-/// a front of the bytes.
+/// `WriteFault` only where the sink's count of faults rose, or stood at 2^64 - 1. The sink then
+/// took a front of the bytes.
 pub fn write_all<K: Sink>(sink: &mut K, bytes: &[u8]) -> Result<(), WriteFault>
     requires { K.fits sink.old bytes.now }
     ensures all { OnOk result (Appends (K.taken sink.old) (K.taken sink.new) bytes.now) }
