@@ -7,5 +7,7 @@ mod lines;
 mod program;
 mod projecting;
 mod status;
+#[cfg(test)]
+mod tests;
 
 pub use program::world_main;

@@ -1,0 +1,168 @@
+ghost use Rattle.std.specs.Prelude.{◌≡◌, []};
+ghost use Rattle.outside.specs.Causes.{Rose};
+
+use crate::world_main;
+use outside::{MemSink, MemSource};
+use std::alloc::{AllocError, Global};
+use std::test::Fail;
+
+const USAGE: &[u8] = b"usage: world run, serial, check, audit or big N, with options\n";
+
+// The job of a ramp at depth 2, printed, and its text.
+const RAMP: &[u8] = b"job 1 depth 2\nproject f ramp 0 1 level 0 tol 0\nprint f\n";
+
+const RAMP_TEXT: &[u8] = b"tree f reconstructed\n2 0 0\n2 1 1\n2 2 2\n2 3 3\n";
+
+// The words of a command line.
+fn words_of(alloc: Global, words: &[&str]) -> Result<Vec<String>, AllocError> {
+    let mut all = Vec::new(alloc);
+    for word in words {
+        all.push(String::from_str(alloc, *word)?)?;
+    }
+    Ok(all)
+}
+
+// A status, and what was written.
+#[derive(Drop)]
+struct Outcome {
+    status: u8,
+    written: Vec<u8>,
+}
+
+// Runs the program over memory.
+fn run_over_memory(alloc: Global, words: &[&str], input: &[u8]) -> Result<Outcome, AllocError> {
+    let words = words_of(alloc, words)?;
+    let mut source = MemSource::new(Vec::from_slice(alloc, input)?, 4096, Vec::new(alloc));
+    let mut sink = MemSink::new(alloc, 4096, Vec::new(alloc));
+    let status = world_main(alloc, &words, &mut source, &mut sink);
+    Ok(Outcome {
+        status,
+        written: Vec::from_slice(alloc, sink.bytes())?,
+    })
+}
+
+#[test]
+fn jobs_and_faults(rt: HostRuntime) -> Result<(), Fail> {
+    let cases: [(&[u8], u8, &[u8]); 9] = [
+        (b"", 2, b"fault line 1 F2 header\n"),
+        (
+            b"job 1 depth 0\nproject f const 5 level 0 tol 0\nprint f\n",
+            0,
+            b"tree f reconstructed\n0 0 5\n",
+        ),
+        (RAMP, 0, RAMP_TEXT),
+        // A difference that equals the tolerance is let stand.
+        (
+            b"job 1 depth 2\nproject f ramp 0 1 level 0 tol 2\nprint f\n",
+            0,
+            b"tree f reconstructed\n0 0 0\n",
+        ),
+        (b"job 1 depth 2\n", 0, b""),
+        // The last projection of a name is the one that is printed.
+        (
+            b"job 1 depth 1\nproject f const 1 level 0 tol 0\nproject g const 9 level 0 tol 0\nproject f const -2 level 1 tol 0\nprint f\nprint g\n",
+            0,
+            b"tree f reconstructed\n1 0 -2\n1 1 -2\ntree g reconstructed\n0 0 18\n",
+        ),
+        (
+            b"job 1 depth 1\n\n# f isn't written\nprint f\n",
+            2,
+            b"fault line 4 F3 unknown command\n",
+        ),
+        (
+            b"job 1 depth 1\nproject f ramp 0 16777216 level 0 tol 0\n",
+            0,
+            b"",
+        ),
+        (
+            b"job 1 depth 1\nproject f ramp 0 16777217 level 0 tol 0\n",
+            2,
+            b"fault line 2 F3 unknown command\n",
+        ),
+    ];
+    for (input, status, text) in cases {
+        let outcome = run_over_memory(rt.alloc(), &["run"], input)?;
+        assert_eq!(rt; outcome.status, status);
+        assert!(rt; outcome.written.as_slice() == text);
+    }
+    Ok(())
+}
+
+#[test]
+fn too_much_input(rt: HostRuntime) -> Result<(), Fail> {
+    let most = vec![in rt.alloc(); b'#'; 1_048_576]?;
+    let one_line = run_over_memory(rt.alloc(), &["run"], &most)?;
+    assert_eq!(rt; one_line.status, 2);
+    assert!(rt; one_line.written.as_slice() == b"fault line 2 F2 header\n".as_slice());
+    let more = vec![in rt.alloc(); b'#'; 1_048_577]?;
+    let too_long = run_over_memory(rt.alloc(), &["run"], &more)?;
+    assert_eq!(rt; too_long.status, 2);
+    assert!(rt; too_long.written.as_slice() == b"fault too long\n".as_slice());
+    Ok(())
+}
+
+#[test]
+fn other_words(rt: HostRuntime) -> Result<(), Fail> {
+    let cases: [&[&str]; 5] = [&[], &["walk"], &["run", "run"], &["Run"], &["run "]];
+    for words in cases {
+        let outcome = run_over_memory(rt.alloc(), words, RAMP)?;
+        assert_eq!(rt; outcome.status, 1);
+        assert!(rt; outcome.written.as_slice() == USAGE);
+    }
+    Ok(())
+}
+
+#[test]
+fn failing_source(rt: HostRuntime) -> Result<(), Fail> {
+    let alloc = rt.alloc();
+    let words = words_of(alloc, &["run"])?;
+    let failing = vec![in alloc; 1u64]?;
+    let mut source = MemSource::new(Vec::from_slice(alloc, RAMP)?, 16, failing);
+    let mut sink = MemSink::new(alloc, 8, Vec::new(alloc));
+    assert_eq!(rt; world_main(alloc, &words, &mut source, &mut sink), 5);
+    assert!(rt; sink.bytes().is_empty());
+    Ok(())
+}
+
+#[test]
+fn failing_sink(rt: HostRuntime) -> Result<(), Fail> {
+    let alloc = rt.alloc();
+    let words = words_of(alloc, &["run"])?;
+    let mut source = MemSource::new(Vec::from_slice(alloc, RAMP)?, 4096, Vec::new(alloc));
+    let failing = vec![in alloc; 2u64]?;
+    let mut sink = MemSink::new(alloc, 8, failing);
+    assert_eq!(rt; world_main(alloc, &words, &mut source, &mut sink), 6);
+    assert!(rt; sink.bytes() == b"tree f reconstru".as_slice());
+    assert_eq!(rt; sink.starved(), 0);
+    Ok(())
+}
+
+// Over a sink in memory with no call made to fail, a write fails only where the sink found no memory.
+fn write_fault_is_want_of_memory(
+    alloc: Global,
+    words: &[String],
+    source: &mut MemSource,
+    sink: &mut MemSink,
+) -> u8
+    requires fresh { (sink.old.faults ≡ 0) × (sink.old.starved ≡ 0) }
+    requires planned { sink.old.failing ≡ [] }
+    ensures { result ≡ 6 → Rose sink.old.starved sink.new.starved }
+{
+    let status = world_main(alloc, words, source, sink);
+    let _ = sink.starved();
+    status
+}
+
+#[test]
+fn no_write_fault_with_memory(rt: HostRuntime) -> Result<(), Fail> {
+    let alloc = rt.alloc();
+    let words = words_of(alloc, &["run"])?;
+    let mut source = MemSource::new(Vec::from_slice(alloc, RAMP)?, 1, Vec::new(alloc));
+    let mut sink = MemSink::new(alloc, 1, Vec::new(alloc));
+    assert_eq!(rt;
+        write_fault_is_want_of_memory(alloc, &words, &mut source, &mut sink),
+        0
+    );
+    assert!(rt; sink.bytes() == RAMP_TEXT);
+    Ok(())
+}
