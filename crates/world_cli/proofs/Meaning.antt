@@ -15,7 +15,7 @@ use Rattle.std.proofs.lemmas.List.Folds.{flat_map-map}
 use Rattle.std.proofs.lemmas.List.Sums.{fold_push}
 use Rattle.tree_key.specs.Keys.{Key}
 use Rattle.tree_model.specs.Commands.{Command, tree_behind, written, writes}
-use Rattle.tree_model.specs.Commands.Command.{Project, Print}
+use Rattle.tree_model.specs.Commands.Command.{Project}
 use Rattle.tree_model.specs.Project.{Projection, projected}
 use Rattle.tree_model.specs.Rows.{leaf_sums, with_sum}
 use Rattle.tree_model.specs.Texts.{lines_of_tree, tree_lines, leaves, lines_behind, command_lines}
@@ -24,6 +24,7 @@ use Rattle.job_lang.specs.Checks.{is_accepted, is_within_limits, may_follow, are
 use Rattle.world_cli.specs.Lines.{sum_line, sums_text}
 use Rattle.world_cli.specs.Trees.{sums_at, HasTrees}
 
+-- a fact that follows from what holds on success
 pub OnOk-map : {T E : Type 0} (r : Result T E) (P Q : Type 0) → (P → Q) → OnOk r P → OnOk r Q
 OnOk-map (Ok x) P Q f p = f p
 OnOk-map (Err e) P Q f p = p
@@ -39,10 +40,7 @@ lines-found name (Some t) es is =
     let same : es ≡ leaf_sums t = cc in
     ap (sums_text name) same ∙ tree_lines-sums name t
 
-pub lines-missing : (name : List ℕ) (o : Option Tree) → option_map leaf_sums o ≡ None → lines_of_tree name o ≡ []
-lines-missing name None is = refl
-lines-missing name (Some t) is = cc
-
+-- a choice of two values, changed
 pub option_map-cond : {X Y : Type 0} (f : X → Y) (b : Bool) (x : X) (o : Option X) → option_map f (cond b (Some x) o) ≡ cond b (Some (f x)) (option_map f o)
 option_map-cond f true x o = refl
 option_map-cond f false x o = refl
@@ -59,11 +57,6 @@ trees-projected depth before name p old new es has is put = λ other.
     ∙ ap (cond (bytes_eq other name) (Some (leaf_sums (projected depth p)))) (has other)
     ∙ sym (option_map-cond leaf_sums (bytes_eq other name) (projected depth p) (tree_behind depth before other))
     ∙ ap (option_map leaf_sums) (sym (fold_push (λ behind command. cond (writes other command) (written depth command) behind) None before (Project name p)))
-
--- a print leaves all trees
-pub trees-printed : (depth : ℕ) (before : List Command) (name : List ℕ) (trees : BTreeMap (Bor (List ℕ)) (BTreeMap Key ℤ)) → HasTrees depth before trees → HasTrees depth (before ++ Print name ∷ []) trees
-trees-printed depth before name trees has = λ other.
-    has other ∙ ap (option_map leaf_sums) (sym (fold_push (λ behind command. cond (writes other command) (written depth command) behind) None before (Print name)))
 
 -- each command of accepted ones is within its limits
 pub accepted-at : (depth : ℕ) (before cs : List Command) (i : ℕ) (d : Command) → are_accepted depth before cs ≡ true → i < length cs → is_within_limits depth (get_or cs i d) ≡ true
