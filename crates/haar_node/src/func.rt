@@ -70,3 +70,74 @@ impl Func {
         }
     }
 }
+
+#[cfg(test)]
+mod tests {
+    use super::*;
+    use std::process::Abort;
+
+    const LIMIT: i64 = 16_777_216;
+
+    // The value at a cell of a depth at which the function fits.
+    fn value(rt: &impl Abort, func: Func, depth: u8, x: u32) -> i64 {
+        assert!(rt; func.fits(depth), "{func:?} fits depth {depth}");
+        assert!(rt;
+            depth <= 16 && x < 1 << depth,
+            "{x} is a cell of depth {depth}"
+        );
+        func.value(x)
+    }
+
+    #[test]
+    fn functions_fit_up_to_their_limits(rt: HostRuntime) {
+        let cases = [
+            (Func::Const(LIMIT), 0, true),
+            (Func::Const(LIMIT + 1), 0, false),
+            (Func::Const(-LIMIT), 16, true),
+            (Func::Const(-LIMIT - 1), 16, false),
+            (Func::Const(i64::MIN), 0, false),
+            (Func::Const(0), 17, false),
+            (Func::Const(0), 255, false),
+            // From 0 to the limit in one step.
+            (Func::Ramp(0, LIMIT), 1, true),
+            (Func::Ramp(0, LIMIT + 1), 1, false),
+            (Func::Ramp(0, -LIMIT), 1, true),
+            (Func::Ramp(0, -LIMIT - 1), 1, false),
+            // From one end of the limits to the other.
+            (Func::Ramp(LIMIT, -2 * LIMIT), 1, true),
+            (Func::Ramp(-LIMIT, 2 * LIMIT), 1, true),
+            (Func::Ramp(LIMIT, -2 * LIMIT), 2, false),
+            // A start beyond the limit, though the ramp ends within it.
+            (Func::Ramp(LIMIT + 1, -2), 1, false),
+            (Func::Ramp(-LIMIT - 1, 2), 1, false),
+            // 65,535 steps of 256 end 256 below the limit, and one more at the limit passes it.
+            (Func::Ramp(256, 256), 16, true),
+            (Func::Ramp(257, 256), 16, false),
+            (Func::Ramp(0, 0), 17, false),
+            // On one cell only the slope's own limit is left.
+            (Func::Ramp(0, 2 * LIMIT), 0, true),
+            (Func::Ramp(0, 2 * LIMIT + 1), 0, false),
+            (Func::Ramp(0, -2 * LIMIT), 0, true),
+            (Func::Ramp(0, -2 * LIMIT - 1), 0, false),
+        ];
+        for (func, depth, expected) in cases {
+            assert_eq!(rt; func.fits(depth), expected, "{func:?} at depth {depth}");
+        }
+    }
+
+    #[test]
+    fn functions_have_their_values(rt: HostRuntime) {
+        let cases = [
+            (Func::Const(-7), 16, 65535, -7),
+            (Func::Ramp(3, -2), 3, 0, 3),
+            (Func::Ramp(3, -2), 3, 1, 1),
+            (Func::Ramp(3, -2), 3, 7, -11),
+            (Func::Ramp(-5, 4), 2, 3, 7),
+            (Func::Ramp(256, 256), 16, 65535, LIMIT),
+            (Func::Ramp(LIMIT, -2 * LIMIT), 1, 1, -LIMIT),
+        ];
+        for (func, depth, x, expected) in cases {
+            assert_eq!(rt; value(&rt, func, depth, x), expected, "{func:?} at {x}");
+        }
+    }
+}

@@ -35,7 +35,7 @@ cells_from_contains depth k other within contains cell inside =
     (high ∙ ap (λ n. n / 2 ^ (other.level - k.level)) low ∙ ap (λ (o : Key). o.at) contains.over)
 
 -- the first and the last cell of a box
-first_in_box : (depth : ℕ) (k : Key) → InBox depth k (first_cell depth k)
+pub first_in_box : (depth : ℕ) (k : Key) → InBox depth k (first_cell depth k)
 first_in_box depth k =
     let some = pow_pos (depth - k.level) in record { from = omega arith; below = omega arith }
 

@@ -54,12 +54,12 @@ ancestor_of_ancestor k m j order within =
     (sym (steps ∙ ap (λ n. k.at / 2 ^ (k.level - m) / 2 ^ n) apart))
 
 -- a half of what fits below a power fits below the power before
-half_fits : (level at : ℕ) (side : Bool) → 2 * at + cond side 1 0 < 2 ^ (level + 1) → at < 2 ^ level
+pub half_fits : (level at : ℕ) (side : Bool) → 2 * at + cond side 1 0 < 2 ^ (level + 1) → at < 2 ^ level
 half_fits level at true fits = let double = twice level in omega arith
 half_fits level at false fits = let double = twice level in omega arith
 
 -- and back
-child_fits : (level at : ℕ) (side : Bool) → at < 2 ^ level → 2 * at + cond side 1 0 < 2 ^ (level + 1)
+pub child_fits : (level at : ℕ) (side : Bool) → at < 2 ^ level → 2 * at + cond side 1 0 < 2 ^ (level + 1)
 child_fits level at true fits = let double = twice level in omega arith
 child_fits level at false fits = let double = twice level in omega arith
 

@@ -8,9 +8,9 @@ use Rattle.std.proofs.lemmas.Nat.{shr_below, pow-add}
 use Rattle.std.proofs.lemmas.Int.{ints}
 use Rattle.std.proofs.Math.Nat.{mul-le-mul_right}
 use Rattle.std.proofs.Math.IntN.{suc_ℤ-*ℤ, +ℤ_comm}
-use Rattle.tree_key.specs.Keys.{Key, child, ancestor, width, first_cell, InBox}
+use Rattle.tree_key.specs.Keys.{Key, child, ancestor, width, first_cell, InBox, key_over}
 use Rattle.tree_model.specs.Functions.{value_at}
-use Rattle.tree_model.specs.Shapes.{is_key_of, is_leaf, key_over}
+use Rattle.tree_model.specs.Shapes.{is_key_of, is_leaf}
 use Rattle.tree_model.specs.Trees.{total, box_sum}
 use Rattle.tree_model.specs.Project.{Projection, is_split, projected_shape, projected, leaf_over}
 use Rattle.tree_model.proofs.Ranges.{slice-map-range}

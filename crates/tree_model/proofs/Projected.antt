@@ -4,7 +4,10 @@ use Rattle.std.specs.List.{flat_map, range_with_len, slice_get}
 use Rattle.std.proofs.lemmas.Bool.{and_parts, and_left, ltb-true, le-leb, le-ltb, cases_lt}
 use Rattle.std.proofs.lemmas.Grind.{flat_map-append}
 use Rattle.std.proofs.lemmas.List.FromFn.{length-map-range_with_len}
-use Rattle.tree_key.specs.Keys.{Key, root, child, first_cell, width, InBox}
+use Rattle.tree_key.specs.Keys.{Key, root, child, first_cell, width}
+use Rattle.tree_key.proofs.PowerLemmas.{twice}
+use Rattle.tree_key.proofs.BoxLemmas.{first_in_box}
+use Rattle.tree_key.proofs.FamilyLemmas.{half_fits}
 use Rattle.tree_model.specs.Functions.{value_at}
 use Rattle.tree_model.specs.Shapes.{IsShape, is_key_of, is_leaf, keys_on}
 use Rattle.tree_model.specs.Trees.{IsTree}
@@ -13,26 +16,23 @@ use Rattle.tree_model.specs.Rows.{row, whole_keys, with_sum, leaf_sums, leaf_sum
 use Rattle.tree_model.specs.Laws.{RowsFollow, LeavesFollow}
 use Rattle.tree_model.proofs.Ranges.{range-more}
 use Rattle.tree_model.proofs.Lists.{filter-flat_map, map-flat_map}
-use Rattle.tree_model.proofs.Rows.{shape-child, row-next, leaves-row, pow-more}
+use Rattle.tree_model.proofs.Rows.{shape-child, row-next, leaves-row}
 use Rattle.tree_model.proofs.Leaves.{leaf-parts, leaf-values, box-within}
 use Rattle.std.proofs.lemmas.Nat.{pow_pos}
 
 root_is_in : (depth : ℕ) (p : Projection) → projected_shape depth p root ≡ true
 root_is_in depth p = rw (le-leb 0 depth (omega arith)) refl
 
--- where a child's place fits its level, its parent's place does
-parent_fits : (k : Key) (right : Bool) → 2 * k.at + cond right 1 0 < 2 ^ (k.level + 1) → k.at < 2 ^ k.level
-parent_fits k right fits = omega (arith, pow-more k.level)
-
-child_fits : (depth : ℕ) (p : Projection) (k : Key) (right : Bool) → projected_shape depth p (child k right) ≡ true → k.at < 2 ^ k.level
-child_fits depth p k right is =
+-- the parent of a child in the shape has a place of its level
+key_fits : (depth : ℕ) (p : Projection) (k : Key) (right : Bool) → projected_shape depth p (child k right) ≡ true → k.at < 2 ^ k.level
+key_fits depth p k right is =
     let tests = and_parts (is_key_of depth (child k right)) _ is in
     let key = and_parts (leb (k.level + 1) depth) (ltb (2 * k.at + cond right 1 0) (2 ^ (k.level + 1))) tests.0 in
-    parent_fits k right (ltb-true _ _ key.1)
+    half_fits k.level k.at right (ltb-true _ _ key.1)
 
 beyond : (depth : ℕ) (p : Projection) (k : Key) (right : Bool) → 2 ^ k.level ≤ k.at → projected_shape depth p (child k right) ≡ false
 beyond depth p k right out =
-    let none : ltb (2 * k.at + cond right 1 0) (2 ^ (k.level + 1)) ≡ false = le-ltb _ _ (omega (arith, pow-more k.level)) in
+    let none : ltb (2 * k.at + cond right 1 0) (2 ^ (k.level + 1)) ≡ false = le-ltb _ _ (omega (arith, twice k.level)) in
     let no_key : is_key_of depth (child k right) ≡ false = rw none (and_none (leb (k.level + 1) depth)) in
     and_left _ _ no_key
   where
@@ -44,7 +44,7 @@ pub projected-shape : (depth : ℕ) (p : Projection) → IsShape depth (projecte
 projected-shape depth p = record {
   keys = λ k is. (and_parts (is_key_of depth k) _ is).0;
   root = root_is_in depth p;
-  parents = λ k right is. (and_parts (projected_shape depth p k) (is_split depth p k) (sym (shape-child depth p k right (child_fits depth p k right is)) ∙ is)).0;
+  parents = λ k right is. (and_parts (projected_shape depth p k) (is_split depth p k) (sym (shape-child depth p k right (key_fits depth p k right is)) ∙ is)).0;
   children = λ k. elim (cases_lt k.at (2 ^ k.level)) [
     | inl fits ↦ shape-child depth p k true fits ∙ sym (shape-child depth p k false fits)
     | inr out ↦ beyond depth p k true out ∙ sym (beyond depth p k false out)
@@ -68,7 +68,7 @@ projected-tree depth p =
           let parts = leaf-parts depth p leaf is in
           let room = box-within depth leaf parts.level parts.at in
           let some : 0 < width depth leaf = pow_pos (depth - leaf.level) in
-          let first : InBox depth leaf (first_cell depth leaf) = record { from = omega arith; below = omega (arith, some) } in
+          let first = first_in_box depth leaf in
           slice_get-map-range g 0 (2 ^ depth) cell (omega (arith, inside.below, room))
           ∙ ap Some (ap g (zero-add cell) ∙ leaf-values depth p leaf is cell inside ∙ sym (leaf-values depth p leaf is (first_cell depth leaf) first) ∙ sym (ap g (zero-add (first_cell depth leaf))))
           ∙ sym (slice_get-map-range g 0 (2 ^ depth) (first_cell depth leaf) (omega (arith, some, room)))

@@ -3,8 +3,9 @@ use Rattle.std.proofs.Common.{◌≡◌, ℕ, zero, suc, ◌+◌, ◌*◌, ◌^�
 use Rattle.std.specs.List.{flat_map, range_with_len, list_all, AllByRecursion}
 use Rattle.std.proofs.lemmas.Bool.{cases_lt, le-leb, lt-leb, lt-ltb, le-ltb, and_right}
 use Rattle.std.proofs.lemmas.List.Folds.{flat_map-map}
-use Rattle.std.proofs.Math.Nat.{pow-suc}
 use Rattle.tree_key.specs.Keys.{Key, child, ancestor}
+use Rattle.tree_key.proofs.PowerLemmas.{twice}
+use Rattle.tree_key.proofs.FamilyLemmas.{child_fits}
 use Rattle.tree_model.specs.Shapes.{is_key_of, keys_on, is_leaf}
 use Rattle.tree_model.specs.Project.{Projection, is_split, projected_shape}
 use Rattle.tree_model.specs.Rows.{both, row, halves}
@@ -39,24 +40,17 @@ all-keys_on P level each =
     all-map P (λ at. let key : Key = record { level = level; at = at } in key) (range_with_len 0 (2 ^ level))
     (all-range _ 0 (2 ^ level) (λ at low high. each (record { level = level; at = at }) (record { level = refl; at = omega arith })))
 
-pub pow-more : (n : ℕ) → 2 ^ (n + 1) ≡ 2 * 2 ^ n
-pow-more n = rw (add-one, pow-suc) (omega arith)
-
-pub one_or_none : (right : Bool) → cond right 1 0 ≤ 1
-one_or_none true = omega arith
-one_or_none false = omega arith
-
 -- the keys of the next level are the children
 pairs-range : {X : Type 0} (f : ℕ → X) (from count : ℕ) → map f (range_with_len (2 * from) (2 * count)) ≡ flat_map (λ i. f (2 * i + 0) ∷ f (2 * i + 1) ∷ []) (range_with_len from count)
 pairs-range f from zero = refl
 pairs-range f from (suc count) =
-    let twice : 2 * suc count ≡ suc (suc (2 * count)) = omega arith in
+    let two_more : 2 * suc count ≡ suc (suc (2 * count)) = omega arith in
     let next : 2 * from + 1 + 1 ≡ 2 * (from + 1) = omega arith in
-    rw (twice, add-zero, next) (ap (λ rest. f (2 * from) ∷ f (2 * from + 1) ∷ rest) (pairs-range f (from + 1) count))
+    rw (two_more, add-zero, next) (ap (λ rest. f (2 * from) ∷ f (2 * from + 1) ∷ rest) (pairs-range f (from + 1) count))
 
 pub keys_on-next : (level : ℕ) → keys_on (level + 1) ≡ flat_map both (keys_on level)
 keys_on-next level =
-    let double = pow-more level in
+    let double = twice level in
     rw double (pairs-range (λ at. let key : Key = record { level = level + 1; at = at } in key) 0 (2 ^ level) ∙ sym (flat_map-map both (λ at. let key : Key = record { level = level; at = at } in key) (range_with_len 0 (2 ^ level))))
 
 -- the tests of a child's key and of its parent's, where both keys lie on their levels
@@ -73,8 +67,7 @@ shape-child depth p k right fits =
     let above = list_all-range-agree (λ level. is_split depth p (ancestor (child k right) level)) (λ level. is_split depth p (ancestor k level)) k.level (λ level below. ap (is_split depth p) (ancestor-child k right level (omega arith))) in
     let here = (ap (is_split depth p) (ancestor-child k right k.level (omega arith) ∙ ancestor-self k)) in
     let all = (list_all-range-more (λ level. is_split depth p (ancestor (child k right) level)) k.level ∙ ap (λ b. b && is_split depth p (ancestor (child k right) k.level)) above ∙ ap (λ b. list_all (λ level. is_split depth p (ancestor k level)) (range_with_len 0 k.level) && b) here) in
-    let double = pow-more k.level in
-    let room : 2 * k.at + cond right 1 0 < 2 ^ (k.level + 1) = omega (arith, one_or_none right) in
+    let room : 2 * k.at + cond right 1 0 < 2 ^ (k.level + 1) = child_fits k.level k.at right fits in
     ap (λ b. is_key_of depth (child k right) && b) all
     ∙ tests-child k.level depth (ltb (2 * k.at + cond right 1 0) (2 ^ (k.level + 1))) (ltb k.at (2 ^ k.level)) (list_all (λ level. is_split depth p (ancestor k level)) (range_with_len 0 k.level)) _ (lt-ltb _ _ room) (lt-ltb _ _ fits)
 

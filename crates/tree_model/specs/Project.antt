@@ -3,9 +3,9 @@
 use Rattle.std.specs.Prelude.{ℕ, ◌+◌, ◌^◌, Bool, false, true, ◌&&◌, ◌||◌, nat_lt, ℤ, ◌-ℤ◌, List, map}
 use Rattle.std.specs.Int.RustNames.{unsigned_abs}
 use Rattle.std.specs.List.{list_all, position_or_len, range_with_len}
-use Rattle.tree_key.specs.Keys.{Key, child, ancestor, first_cell}
+use Rattle.tree_key.specs.Keys.{Key, child, ancestor, first_cell, key_over}
 use Rattle.tree_model.specs.Functions.{Function, value_at}
-use Rattle.tree_model.specs.Shapes.{is_key_of, is_leaf, key_over}
+use Rattle.tree_model.specs.Shapes.{is_key_of, is_leaf}
 use Rattle.tree_model.specs.Trees.{Tree}
 
 -- the function, the level down to which all is split, and the difference that is let stand

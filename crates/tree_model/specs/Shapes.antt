@@ -1,5 +1,5 @@
 -- Shapes: finite sets of keys that are binary trees, each with its leaves.
-use Rattle.std.specs.Prelude.{◌≡◌, ℕ, ◌+◌, ◌-◌, ◌/◌, ◌^◌, Bool, true, false, ◌&&◌, not, nat_le, nat_lt, List, map}
+use Rattle.std.specs.Prelude.{◌≡◌, ℕ, ◌+◌, ◌^◌, Bool, true, false, ◌&&◌, not, nat_le, nat_lt, List, map}
 use Rattle.std.specs.List.{flat_map, range_with_len}
 use Rattle.tree_key.specs.Keys.{Key, root, child}
 
@@ -24,7 +24,3 @@ pub record IsShape (depth : ℕ) (shape : Key → Bool) : Type 0 where
 -- a key of the shape without children there
 abbrev pub is_leaf : (Key → Bool) → Key → Bool
 is_leaf shape k = shape k && not (shape (child k false))
-
--- the key of a level whose box has the cell
-abbrev pub key_over : ℕ → ℕ → ℕ → Key
-key_over depth level cell = record { level = level; at = cell / 2 ^ (depth - level) }

@@ -5,19 +5,19 @@ ghost use Rattle.tree_model.specs.Commands.Command.{Project, Print};
 ghost use Rattle.tree_model.specs.Texts.{job_text};
 
 /// A constant at depth 0 is one leaf.
-pub fn constant_on_one_cell()
+fn constant_on_one_cell()
     ensures { job_text (record { depth = 0; commands = Project (codes "f") (record { function = Const (pos 5); level = 0; tolerance = 0 }) ∷ Print (codes "f") ∷ [] })
         ≡ codes "tree f reconstructed\n0 0 5\n" }
 {}
 
 /// A ramp without tolerance is split down to its cells.
-pub fn ramp_without_tolerance()
+fn ramp_without_tolerance()
     ensures { job_text (record { depth = 2; commands = Project (codes "f") (record { function = Ramp (pos 0) (pos 1); level = 0; tolerance = 0 }) ∷ Print (codes "f") ∷ [] })
         ≡ codes "tree f reconstructed\n2 0 0\n2 1 1\n2 2 2\n2 3 3\n" }
 {}
 
 /// A difference that equals the tolerance is let stand.
-pub fn ramp_within_tolerance()
+fn ramp_within_tolerance()
     ensures { job_text (record { depth = 2; commands = Project (codes "f") (record { function = Ramp (pos 0) (pos 1); level = 0; tolerance = 2 }) ∷ Print (codes "f") ∷ [] })
         ≡ codes "tree f reconstructed\n0 0 0\n" }
 {}
