@@ -15,17 +15,22 @@ use tree_key::{OutOfMemory, Text};
 /// A status, and the text that goes with it.
 #[derive(Drop)]
 pub struct Answer {
+    /// `Done` for a job, `JobFault` for what isn't one.
     pub status: Status,
+    /// What is to be written: the text of the job, or the line of its fault.
     pub text: Text,
 }
 
 /// Why there is no answer.
 #[derive(Clone, Copy, Debug, PartialEq, Eq)]
 pub enum Refusal {
+    /// The source failed.
     ReadFault,
+    /// There was no memory.
     OutOfMemory,
 }
 
+// The most bytes that an input may have.
 const MAX_INPUT: usize = 1_048_576;
 
 // A text of these bytes.

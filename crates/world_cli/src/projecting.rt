@@ -17,9 +17,13 @@ use tree_key::Key;
 /// A function to be projected at a depth: split down to a level, and where halves differ by more than a tolerance.
 #[derive(Clone, Copy)]
 pub struct Projecting {
+    /// The depth, from 0 to 16: there are two to the depth cells.
     pub depth: u8,
+    /// The function, which fits the depth.
     pub function: Func,
+    /// Each key above this level is split.
     pub level: u8,
+    /// The difference between the halves of a key that is let stand.
     pub tolerance: u32,
     pub ghost is_deep: { depth ≤ 16 },
     pub ghost is_fit: { fits depth (function_of function) ≡ true },

@@ -1,4 +1,6 @@
-/// How a call of the program ends.
+//! The exit statuses of the program.
+
+/// How a call of the program ends; its number is the exit status.
 #[derive(Clone, Copy, Debug, PartialEq, Eq)]
 pub enum Status {
     /// The text was written.
