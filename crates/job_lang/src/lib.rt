@@ -15,6 +15,9 @@ mod numbers;
 mod parse_error;
 mod reading;
 
+#[cfg(test)]
+mod tests;
+
 pub use command::Command;
 pub use fault::JobFault;
 pub use job::Job;

@@ -1,0 +1,108 @@
+//! What `parse` answers, at texts whose readings were worked out by hand.
+use super::*;
+use std::alloc::{AllocError, Global};
+use std::test::Fail;
+
+// The depth and the number of commands, or why there is no job.
+fn outcome(alloc: Global, text: &[u8]) -> Result<(u8, usize), ParseError> {
+    let job = parse(alloc, text)?;
+    Ok((job.depth(), job.commands().len()))
+}
+
+fn fault(line: u64, kind: u8) -> Result<(u8, usize), ParseError> {
+    Err(ParseError::Fault(JobFault { line, kind }))
+}
+
+// A header, and a line so many times.
+fn repeated(alloc: Global, line: &[u8], count: u32) -> Result<Vec<u8>, AllocError> {
+    let mut text = b"job 1 depth 0\n".to_vec(alloc)?;
+    for _ in 0..count {
+        text.extend_from_slice(line)?;
+    }
+    Ok(text)
+}
+
+// A header, and a command for each of so many trees.
+fn trees(alloc: Global, count: u32) -> Result<Vec<u8>, AllocError> {
+    let mut text = b"job 1 depth 0\n".to_vec(alloc)?;
+    for at in 0..count {
+        let line = format!(in alloc; "project t{at} const 1 level 0 tol 0\n")?;
+        text.extend_from_slice(line.as_bytes())?;
+    }
+    Ok(text)
+}
+
+#[test]
+fn answers_small_texts(rt: HostRuntime) -> Result<(), Fail> {
+    let cases: [(&[u8], Result<(u8, usize), ParseError>); 13] = [
+        (b"", fault(1, 2)),
+        (b"\n\n", fault(3, 2)),
+        (b"job 1 depth 16", Ok((16, 0))),
+        (b"job 1 depth 17\n", fault(1, 2)),
+        (b"\n# a job\njob 1 depth 2\nproject f ramp 0 1 level 0 tol 0\nprint f\n", Ok((2, 2))),
+        (b"job 1 depth 2\r\nproject f const 5 level 2 tol 3\r\n\r\nprint f\r\n", Ok((2, 2))),
+        (b"\tjob\t1 depth  2\t\n \tproject\tf const 5 level 2 tol 3\n\tprint f \n", Ok((2, 2))),
+        (b"job 1 depth 2\nproject f const 5 level 2 tol 3\nprint f\r", fault(3, 3)),
+        (b"job 1 depth 2\nproject \xc3\xa9 const 5 level 2 tol 3\n", fault(2, 3)),
+        (b"job 1 depth 2 \xff\n", fault(1, 2)),
+        (b"# \xff\x00\xc3\x28\njob 1 depth 2\n#\xff", Ok((2, 0))),
+        (b"job 1 depth 2\nprint f\n", fault(2, 3)),
+        (b"job 1 depth 2\nfence\njob 1 depth 2\n", fault(2, 3)),
+    ];
+    for (text, want) in cases {
+        assert_eq!(rt; outcome(rt.alloc(), text), want, "at {text:?}");
+    }
+    Ok(())
+}
+
+#[test]
+fn refuses_one_command_too_many(rt: HostRuntime) -> Result<(), Fail> {
+    let alloc = rt.alloc();
+    let line = b"project f const 1 level 0 tol 0\n";
+    assert_eq!(rt; outcome(alloc, &repeated(alloc, line, 32)?), Ok((0, 32)));
+    assert_eq!(rt; outcome(alloc, &repeated(alloc, line, 33)?), fault(34, 3));
+    assert_eq!(rt; outcome(alloc, &trees(alloc, 16)?), Ok((0, 16)));
+    assert_eq!(rt; outcome(alloc, &trees(alloc, 17)?), fault(18, 3));
+    Ok(())
+}
+
+#[test]
+fn answers_large_texts(rt: HostRuntime) -> Result<(), Fail> {
+    let alloc = rt.alloc();
+    let comment = vec![in alloc; b'#'; 1_048_577]?;
+    assert_eq!(rt; outcome(alloc, &comment), fault(2, 2));
+    let empty_lines = vec![in alloc; b'\n'; 1_048_577]?;
+    assert_eq!(rt; outcome(alloc, &empty_lines), fault(1_048_578, 2));
+    let words = repeated(alloc, b"a ", 500_000)?;
+    assert_eq!(rt; outcome(alloc, &words), fault(2, 3));
+    let comments = repeated(alloc, b"# a\n", 250_000)?;
+    assert_eq!(rt; outcome(alloc, &comments), Ok((0, 0)));
+    Ok(())
+}
+
+#[test]
+fn keeps_what_a_command_says(rt: HostRuntime) -> Result<(), Fail> {
+    let job = parse(rt.alloc(), b"job 1 depth 3\nproject a_1 ramp -7 2 level 1 tol 9\n")?;
+    let [Command::Project {
+        name,
+        function,
+        level,
+        tolerance,
+    }] = job.commands()
+    else {
+        return Err(Fail::from("not one project"));
+    };
+    assert_eq!(rt; name.bytes(), b"a_1".as_slice());
+    assert_eq!(rt; *function, haar_node::Func::Ramp(-7, 2));
+    assert_eq!(rt; (*level, *tolerance), (1, 9));
+    Ok(())
+}
+
+#[test]
+fn prints_faults(rt: HostRuntime) -> Result<(), Fail> {
+    let fault = ParseError::Fault(JobFault { line: 4, kind: 3 });
+    assert_eq!(rt; fault.to_string(rt.alloc())?.as_str(), "fault line 4 F3 unknown command");
+    let memory = ParseError::OutOfMemory;
+    assert_eq!(rt; memory.to_string(rt.alloc())?.as_str(), "out of memory");
+    Ok(())
+}
