@@ -1,3 +1,4 @@
+//! Keys of a dyadic tree.
 ghost use Rattle.std.specs.Prelude.{◌≡◌, ◌≢◌, ◌^◌, ◌<◌, ◌≤◌, ◌↔◌, IsTrue, IsSome, IfSome, IfNone, Some, ◌++◌, codes};
 ghost use Rattle.std.specs.Fmt.{decimal};
 ghost use Rattle.tree_key.specs.Keys.{Key as KeyData, IsKey, Contains, root, child, parent, place_of};

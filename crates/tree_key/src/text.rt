@@ -1,3 +1,4 @@
+//! Bytes of a text, and the want of memory for more of them.
 ghost use Rattle.std.specs.Prelude.{◌≡◌, [], ◌++◌, OnOk, OnErr, codes, Some};
 
 use std::alloc::{AllocError, AllocFailed, Global};
@@ -60,6 +61,13 @@ impl Text {
         }
     }
 
+    /// A text of these bytes, which are moved in. It takes no memory.
+    pub fn of_bytes(bytes: Vec<u8>) -> Text
+        ensures { result ≡ bytes.items }
+    {
+        Text { bytes }
+    }
+
     /// Adds the bytes at the end. `OutOfMemory` where no memory is left for them: the text is then as it was.
     pub fn add(&mut self, bytes: &[u8]) -> Result<(), OutOfMemory>
         ensures ok { OnOk result (self.new ≡ self.old ++ bytes.now) }
@@ -74,6 +82,13 @@ impl Text {
         ensures { result.now ≡ self.now }
     {
         self.bytes.as_slice()
+    }
+
+    /// All the bytes, moved out. It takes no memory.
+    pub fn into_bytes(self) -> Vec<u8>
+        ensures { result.items ≡ self }
+    {
+        self.bytes
     }
 }
 
@@ -90,6 +105,8 @@ mod tests {
         text.add(b"3 ")?;
         text.add(b"5\n")?;
         assert_eq!(rt; text.bytes(), b"3 5\n".as_slice());
+        let again = Text::of_bytes(text.into_bytes());
+        assert_eq!(rt; again.bytes(), b"3 5\n".as_slice());
         Ok(())
     }
 

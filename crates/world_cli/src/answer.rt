@@ -37,9 +37,7 @@ const MAX_INPUT: usize = 1_048_576;
 fn text_of(alloc: Global, bytes: &[u8]) -> Result<Text, OutOfMemory>
     ensures { IfOk result (λ text. text ≡ bytes.now) }
 {
-    let mut text = Text::new(alloc);
-    text.add(bytes)?;
-    Ok(text)
+    Ok(Text::of_bytes(Vec::from_slice(alloc, bytes)?))
 }
 
 // The line of a fault.
@@ -47,7 +45,7 @@ fn fault_text(alloc: Global, fault: JobFault) -> Result<Text, OutOfMemory>
     ensures { IfOk result (λ text. text ≡ fault_line fault ++ codes "\n") }
 {
     let line = format!(in alloc; "{fault}\n")?;
-    text_of(alloc, line.as_bytes())
+    Ok(Text::of_bytes(line.into_bytes()))
 }
 
 // The answer to bytes that aren't too many.
