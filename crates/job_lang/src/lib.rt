@@ -14,7 +14,6 @@ mod names;
 mod numbers;
 mod parse_error;
 mod reading;
-
 #[cfg(test)]
 mod tests;
 

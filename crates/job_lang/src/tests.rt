@@ -39,11 +39,26 @@ fn answers_small_texts(rt: HostRuntime) -> Result<(), Fail> {
         (b"\n\n", fault(3, 2)),
         (b"job 1 depth 16", Ok((16, 0))),
         (b"job 1 depth 17\n", fault(1, 2)),
-        (b"\n# a job\njob 1 depth 2\nproject f ramp 0 1 level 0 tol 0\nprint f\n", Ok((2, 2))),
-        (b"job 1 depth 2\r\nproject f const 5 level 2 tol 3\r\n\r\nprint f\r\n", Ok((2, 2))),
-        (b"\tjob\t1 depth  2\t\n \tproject\tf const 5 level 2 tol 3\n\tprint f \n", Ok((2, 2))),
-        (b"job 1 depth 2\nproject f const 5 level 2 tol 3\nprint f\r", fault(3, 3)),
-        (b"job 1 depth 2\nproject \xc3\xa9 const 5 level 2 tol 3\n", fault(2, 3)),
+        (
+            b"\n# a job\njob 1 depth 2\nproject f ramp 0 1 level 0 tol 0\nprint f\n",
+            Ok((2, 2)),
+        ),
+        (
+            b"job 1 depth 2\r\nproject f const 5 level 2 tol 3\r\n\r\nprint f\r\n",
+            Ok((2, 2)),
+        ),
+        (
+            b"\tjob\t1 depth  2\t\n \tproject\tf const 5 level 2 tol 3\n\tprint f \n",
+            Ok((2, 2)),
+        ),
+        (
+            b"job 1 depth 2\nproject f const 5 level 2 tol 3\nprint f\r",
+            fault(3, 3),
+        ),
+        (
+            b"job 1 depth 2\nproject \xc3\xa9 const 5 level 2 tol 3\n",
+            fault(2, 3),
+        ),
         (b"job 1 depth 2 \xff\n", fault(1, 2)),
         (b"# \xff\x00\xc3\x28\njob 1 depth 2\n#\xff", Ok((2, 0))),
         (b"job 1 depth 2\nprint f\n", fault(2, 3)),
@@ -82,13 +97,18 @@ fn answers_large_texts(rt: HostRuntime) -> Result<(), Fail> {
 
 #[test]
 fn keeps_what_a_command_says(rt: HostRuntime) -> Result<(), Fail> {
-    let job = parse(rt.alloc(), b"job 1 depth 3\nproject a_1 ramp -7 2 level 1 tol 9\n")?;
-    let [Command::Project {
-        name,
-        function,
-        level,
-        tolerance,
-    }] = job.commands()
+    let job = parse(
+        rt.alloc(),
+        b"job 1 depth 3\nproject a_1 ramp -7 2 level 1 tol 9\n",
+    )?;
+    let [
+        Command::Project {
+            name,
+            function,
+            level,
+            tolerance,
+        },
+    ] = job.commands()
     else {
         return Err(Fail::from("not one project"));
     };
@@ -101,7 +121,10 @@ fn keeps_what_a_command_says(rt: HostRuntime) -> Result<(), Fail> {
 #[test]
 fn prints_faults(rt: HostRuntime) -> Result<(), Fail> {
     let fault = ParseError::Fault(JobFault { line: 4, kind: 3 });
-    assert_eq!(rt; fault.to_string(rt.alloc())?.as_str(), "fault line 4 F3 unknown command");
+    assert_eq!(rt;
+        fault.to_string(rt.alloc())?.as_str(),
+        "fault line 4 F3 unknown command"
+    );
     let memory = ParseError::OutOfMemory;
     assert_eq!(rt; memory.to_string(rt.alloc())?.as_str(), "out of memory");
     Ok(())
