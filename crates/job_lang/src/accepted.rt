@@ -1,5 +1,6 @@
 ghost use Rattle.std.specs.Prelude.{◌≡◌, ℕ, List, [], ◌∷◌, ◌++◌, ◌+◌, ◌≤◌, true, IfSome, OnOk, OnErr};
 ghost use Rattle.std.specs.Option.{option_map};
+ghost use Rattle.tree_model.specs.Functions.{max_depth};
 ghost use Rattle.job_lang.specs.declared.fault.JobFault.{JobFault as FaultData};
 ghost use Rattle.job_lang.specs.Checks.{is_written, brings_tree, reads_written, may_follow, is_accepted};
 ghost use Rattle.job_lang.specs.Reading.{command_of_words, commands_from};
@@ -47,7 +48,7 @@ impl Accepted {
 
     /// No commands, at a depth from 0 to 16.
     pub fn new(alloc: Global, depth: u8) -> Accepted
-        requires { depth ≤ 16 }
+        requires { depth ≤ max_depth }
         ensures { result ≡ record { depth = depth; commands = [] } }
     {
         Accepted {
@@ -96,7 +97,8 @@ impl Accepted {
     // Adds a command that is accepted behind the others.
     fn push(&mut self, alloc: Global, command: &CommandRef) -> Result<(), AllocError>
         requires { is_accepted self.old.depth self.old.commands (command_data command.now) ≡ true }
-        ensures ok { OnOk result (self.new ≡ record self.old { commands = self.old.commands ++ command_data command.now ∷ [] }) }
+        ensures ok { OnOk result
+            (self.new ≡ record self.old { commands = self.old.commands ++ command_data command.now ∷ [] }) }
         ensures err { OnErr result (self.new ≡ self.old) }
     {
         let is_new = self.brings_tree(command);
@@ -108,7 +110,8 @@ impl Accepted {
 
     // The command that a line's words say, where it is accepted behind the others.
     fn command_of<'a>(&self, words: &[&'a [u8]]) -> Option<CommandRef<'a>>
-        ensures command { option_map command_data result ≡ command_of_words self.now.depth self.now.commands (texts words.now) }
+        ensures command { option_map command_data result
+            ≡ command_of_words self.now.depth self.now.commands (texts words.now) }
         ensures accepted { IfSome result (λ c. is_accepted self.now.depth self.now.commands (command_data c) ≡ true) }
     {
         let form = Form::of_words(words)?;
@@ -120,15 +123,20 @@ impl Accepted {
         }
     }
 
-    /// Takes the line of a number: it is passed over, or its command is added.
+    /// Takes the line of a number: it is passed over, or its command is added. An error leaves the commands as they
+    /// were.
     ///
     /// # Errors
     ///
     /// `Fault` where the line isn't an accepted command; `OutOfMemory` where there is no memory left.
     pub fn take_line(&mut self, alloc: Global, number: u64, line: &[u8]) -> Result<(), ParseError>
         ensures depth { self.new.depth ≡ self.old.depth }
-        ensures ok { OnOk result ((rest : List (List ℕ)) → commands_from self.old.depth self.old.commands number (line.now ∷ rest) ≡ commands_from self.old.depth self.new.commands (number + 1) rest) }
-        ensures fault { (fault : FaultData) (rest : List (List ℕ)) → result ≡ Err (ParseError.Fault fault) → commands_from self.old.depth self.old.commands number (line.now ∷ rest) ≡ Err fault }
+        ensures ok { OnOk result ((rest : List (List ℕ)) →
+            commands_from self.old.depth self.old.commands number (line.now ∷ rest)
+            ≡ commands_from self.old.depth self.new.commands (number + 1) rest) }
+        ensures err { OnErr result (self.new ≡ self.old) }
+        ensures fault { (fault : FaultData) (rest : List (List ℕ)) → result ≡ Err (ParseError.Fault fault) →
+            commands_from self.old.depth self.old.commands number (line.now ∷ rest) ≡ Err fault }
     {
         let words = words_of(alloc, line)?;
         if is_passed_over(&words) {

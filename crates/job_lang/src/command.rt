@@ -1,6 +1,5 @@
 ghost use Rattle.std.specs.Prelude.{◌≡◌};
 ghost use Rattle.std.specs.List.{list_any};
-ghost use Rattle.std.specs.Str.{bytes_eq};
 ghost use Rattle.tree_model.specs.Commands.{writes};
 
 use haar_node::Func;
@@ -23,13 +22,6 @@ pub enum Command {
     },
 }
 
-// Whether two texts are equal.
-fn is_same_text(a: &[u8], b: &[u8]) -> bool
-    ensures { result ≡ bytes_eq a.now b.now }
-{
-    a == b
-}
-
 impl Command {
     ghost use Rattle.job_lang.specs.Data.{data_of};
 
@@ -38,7 +30,7 @@ impl Command {
         ensures { result ≡ writes name.now (data_of self.now) }
     {
         match self {
-            Command::Project { name: written, .. } => is_same_text(name, written.bytes()),
+            Command::Project { name: written, .. } => name == written.bytes(),
             Command::Print { .. } => false,
         }
     }

@@ -56,33 +56,51 @@ pub fn headers()
 /// A carriage return belongs to a line's end only before a line feed, and `#` after blanks begins a comment.
 pub fn ends_of_lines()
     ensures return_at_end { reading_of (codes "job 1 depth 0\r") ≡ Err (record { line = 1; kind = 2 }) }
-    ensures return_before_feed { reading_of (codes "job 1 depth 0\r\n \t#x y\r\n") ≡ Ok (record { depth = 0; commands = [] }) }
+    ensures return_before_feed { reading_of (codes "job 1 depth 0\r\n \t#x y\r\n")
+        ≡ Ok (record { depth = 0; commands = [] }) }
     ensures return_within { reading_of (codes "job 1 depth 0\n\r\r\n") ≡ Err (record { line = 2; kind = 3 }) }
 {}
 
 /// A byte that no form has is a fault of its line, and none in a comment.
 pub fn foreign_bytes()
-    ensures in_header { reading_of (codes "job 1 depth 0" ++ 200 ∷ codes "\n") ≡ Err (record { line = 1; kind = 2 }) }
-    ensures in_a_command { reading_of (codes "job 1 depth 0\n" ++ 0 ∷ 200 ∷ []) ≡ Err (record { line = 2; kind = 3 }) }
-    ensures in_a_comment { reading_of (codes "#" ++ 200 ∷ 0 ∷ codes "\njob 1 depth 0") ≡ Ok (record { depth = 0; commands = [] }) }
+    ensures in_header { reading_of (codes "job 1 depth 0" ++ 200 ∷ codes "\n")
+        ≡ Err (record { line = 1; kind = 2 }) }
+    ensures in_a_command { reading_of (codes "job 1 depth 0\n" ++ 0 ∷ 200 ∷ [])
+        ≡ Err (record { line = 2; kind = 3 }) }
+    ensures in_a_comment { reading_of (codes "#" ++ 200 ∷ 0 ∷ codes "\njob 1 depth 0")
+        ≡ Ok (record { depth = 0; commands = [] }) }
 {}
 
 /// The limits of a line's numbers, at depth 1.
 pub fn limits()
-    ensures steepest { reading_of (codes "job 1 depth 1\nproject f ramp 0 16777216 level 0 tol 0") ≡ Ok (record { depth = 1; commands = Project (codes "f") (record { function = Ramp (pos 0) (pos 16777216); level = 0; tolerance = 0 }) ∷ [] }) }
-    ensures too_steep { reading_of (codes "job 1 depth 1\nproject f ramp 0 16777217 level 0 tol 0") ≡ Err (record { line = 2; kind = 3 }) }
-    ensures smallest { reading_of (codes "job 1 depth 1\nproject f const -16777216 level 1 tol 33554432") ≡ Ok (record { depth = 1; commands = Project (codes "f") (record { function = Const (negsuc 16777215); level = 1; tolerance = 33554432 }) ∷ [] }) }
-    ensures too_small { reading_of (codes "job 1 depth 1\nproject f const -16777217 level 1 tol 0") ≡ Err (record { line = 2; kind = 3 }) }
-    ensures level_above_depth { reading_of (codes "job 1 depth 1\nproject f const 0 level 2 tol 0") ≡ Err (record { line = 2; kind = 3 }) }
-    ensures negative_tolerance { reading_of (codes "job 1 depth 1\nproject f const 0 level 0 tol -1") ≡ Err (record { line = 2; kind = 3 }) }
-    ensures negative_zero { reading_of (codes "job 1 depth 1\nproject f const -0 level -0 tol -0") ≡ Ok (record { depth = 1; commands = Project (codes "f") (record { function = Const (pos 0); level = 0; tolerance = 0 }) ∷ [] }) }
+    ensures steepest { reading_of (codes "job 1 depth 1\nproject f ramp 0 16777216 level 0 tol 0")
+        ≡ Ok (record { depth = 1; commands = Project (codes "f") (record { function = Ramp (pos 0) (pos 16777216); level = 0; tolerance = 0 }) ∷ [] }) }
+    ensures too_steep { reading_of (codes "job 1 depth 1\nproject f ramp 0 16777217 level 0 tol 0")
+        ≡ Err (record { line = 2; kind = 3 }) }
+    ensures smallest { reading_of (codes "job 1 depth 1\nproject f const -16777216 level 1 tol 33554432")
+        ≡ Ok (record { depth = 1; commands = Project (codes "f") (record { function = Const (negsuc 16777215); level = 1; tolerance = 33554432 }) ∷ [] }) }
+    ensures too_small { reading_of (codes "job 1 depth 1\nproject f const -16777217 level 1 tol 0")
+        ≡ Err (record { line = 2; kind = 3 }) }
+    ensures level_above_depth { reading_of (codes "job 1 depth 1\nproject f const 0 level 2 tol 0")
+        ≡ Err (record { line = 2; kind = 3 }) }
+    ensures negative_tolerance { reading_of (codes "job 1 depth 1\nproject f const 0 level 0 tol -1")
+        ≡ Err (record { line = 2; kind = 3 }) }
+    ensures negative_zero { reading_of (codes "job 1 depth 1\nproject f const -0 level -0 tol -0")
+        ≡ Ok (record { depth = 1; commands = Project (codes "f") (record { function = Const (pos 0); level = 0; tolerance = 0 }) ∷ [] }) }
 {}
 
 /// A tree may be written again, and is printed only behind a command that writes it.
 pub fn order_of_commands()
-    ensures written_twice { reading_of (codes "job 1 depth 0\nproject f const 1 level 0 tol 0\nproject f const 2 level 0 tol 0\nprint f") ≡ Ok (record { depth = 0; commands = Project (codes "f") (record { function = Const (pos 1); level = 0; tolerance = 0 }) ∷ Project (codes "f") (record { function = Const (pos 2); level = 0; tolerance = 0 }) ∷ Print (codes "f") ∷ [] }) }
-    ensures printed_before { reading_of (codes "job 1 depth 0\nprint f\nproject f const 1 level 0 tol 0") ≡ Err (record { line = 2; kind = 3 }) }
-    ensures first_fault { reading_of (codes "job 1 depth 0\n\nprnt f\nprint g") ≡ Err (record { line = 3; kind = 3 }) }
+    ensures written_twice { reading_of (codes "job 1 depth 0\nproject f const 1 level 0 tol 0\nproject f const 2 level 0 tol 0\nprint f")
+        ≡ Ok (record {
+          depth = 0;
+          commands = Project (codes "f") (record { function = Const (pos 1); level = 0; tolerance = 0 })
+              ∷ Project (codes "f") (record { function = Const (pos 2); level = 0; tolerance = 0 }) ∷ Print (codes "f") ∷ [];
+        }) }
+    ensures printed_before { reading_of (codes "job 1 depth 0\nprint f\nproject f const 1 level 0 tol 0")
+        ≡ Err (record { line = 2; kind = 3 }) }
+    ensures first_fault { reading_of (codes "job 1 depth 0\n\nprnt f\nprint g")
+        ≡ Err (record { line = 3; kind = 3 }) }
 {}
 
 /// The lines that tell faults.

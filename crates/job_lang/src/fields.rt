@@ -1,32 +1,18 @@
 //! Readers of the words of a line: each takes words off the front, and answers what they say and the words behind them.
-ghost use Rattle.std.specs.Prelude.{◌≡◌, IsTrue, None, ◌↔◌};
-ghost use Rattle.std.specs.Option.{option_map};
-ghost use Rattle.std.specs.Str.{bytes_eq};
-ghost use Rattle.haar_node.specs.Func.{function_of};
+ghost use Rattle.std.specs.Prelude.{◌≡◌};
 ghost use Rattle.job_lang.specs.Grammar.{keyword, name_at, number_at, size_at, const_at, ramp_at, function_at, no_more};
-ghost use Rattle.job_lang.specs.Slices.{texts, rest_of, read_of};
+ghost use Rattle.job_lang.specs.Slices.{texts, rest_read, name_read, number_read, function_read};
 
 use crate::names::Name;
 use crate::numbers::number_of;
 use haar_node::Func;
 
-// Whether two texts are equal.
-fn is_same_text(a: &[u8], b: &[u8]) -> bool
-    ensures { result ≡ bytes_eq a.now b.now }
-{
-    a == b
-}
-
 /// The words behind this very word.
 pub fn keyword<'a, 'b>(text: &[u8], words: &'b [&'a [u8]]) -> Option<&'b [&'a [u8]]>
-    ensures { rest_of result ≡ keyword text.now (texts words.now) }
+    ensures { rest_read result ≡ keyword text.now (texts words.now) }
 {
     let (first, rest) = words.split_first()?;
-    if is_same_text(first, text) {
-        Some(rest)
-    } else {
-        None
-    }
+    if *first == text { Some(rest) } else { None }
 }
 
 /// Some where no word is left.
@@ -38,7 +24,7 @@ pub fn no_more(words: &[&[u8]]) -> Option<()>
 
 /// A name, and the words behind it.
 pub fn name_at<'a, 'b>(words: &'b [&'a [u8]]) -> Option<(Name<'a>, &'b [&'a [u8]])>
-    ensures { option_map (λ r. (r.0.bytes.now, texts r.1.now)) result ≡ name_at (texts words.now) }
+    ensures { name_read result ≡ name_at (texts words.now) }
 {
     let (first, rest) = words.split_first()?;
     let name = Name::of_word(first)?;
@@ -47,7 +33,7 @@ pub fn name_at<'a, 'b>(words: &'b [&'a [u8]]) -> Option<(Name<'a>, &'b [&'a [u8]
 
 /// A number, and the words behind it.
 pub fn number_at<'a, 'b>(words: &'b [&'a [u8]]) -> Option<(i64, &'b [&'a [u8]])>
-    ensures { read_of result ≡ number_at (texts words.now) }
+    ensures { number_read result ≡ number_at (texts words.now) }
 {
     let (first, rest) = words.split_first()?;
     let number = number_of(first)?;
@@ -56,7 +42,7 @@ pub fn number_at<'a, 'b>(words: &'b [&'a [u8]]) -> Option<(i64, &'b [&'a [u8]])>
 
 /// A number that isn't negative, and the words behind it.
 pub fn size_at<'a, 'b>(words: &'b [&'a [u8]]) -> Option<(u64, &'b [&'a [u8]])>
-    ensures { read_of result ≡ size_at (texts words.now) }
+    ensures { number_read result ≡ size_at (texts words.now) }
 {
     let (number, rest) = number_at(words)?;
     if number < 0 {
@@ -67,7 +53,7 @@ pub fn size_at<'a, 'b>(words: &'b [&'a [u8]]) -> Option<(u64, &'b [&'a [u8]])>
 
 /// The function `const C`, and the words behind it.
 pub fn const_at<'a, 'b>(words: &'b [&'a [u8]]) -> Option<(Func, &'b [&'a [u8]])>
-    ensures { option_map (λ r. (function_of r.0, texts r.1.now)) result ≡ const_at (texts words.now) }
+    ensures { function_read result ≡ const_at (texts words.now) }
 {
     let words = keyword(b"const", words)?;
     let (constant, words) = number_at(words)?;
@@ -76,7 +62,7 @@ pub fn const_at<'a, 'b>(words: &'b [&'a [u8]]) -> Option<(Func, &'b [&'a [u8]])>
 
 /// The function `ramp A B`, and the words behind it.
 pub fn ramp_at<'a, 'b>(words: &'b [&'a [u8]]) -> Option<(Func, &'b [&'a [u8]])>
-    ensures { option_map (λ r. (function_of r.0, texts r.1.now)) result ≡ ramp_at (texts words.now) }
+    ensures { function_read result ≡ ramp_at (texts words.now) }
 {
     let words = keyword(b"ramp", words)?;
     let (start, words) = number_at(words)?;
@@ -86,7 +72,7 @@ pub fn ramp_at<'a, 'b>(words: &'b [&'a [u8]]) -> Option<(Func, &'b [&'a [u8]])>
 
 /// A function, and the words behind it.
 pub fn function_at<'a, 'b>(words: &'b [&'a [u8]]) -> Option<(Func, &'b [&'a [u8]])>
-    ensures { option_map (λ r. (function_of r.0, texts r.1.now)) result ≡ function_at (texts words.now) }
+    ensures { function_read result ≡ function_at (texts words.now) }
 {
     const_at(words).or_else(|| ramp_at(words))
 }

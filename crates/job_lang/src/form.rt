@@ -1,6 +1,7 @@
 //! The forms of lines, read from their words.
 ghost use Rattle.std.specs.Prelude.{◌≡◌, ◌≤◌, IfSome};
 ghost use Rattle.std.specs.Option.{option_map};
+ghost use Rattle.tree_model.specs.Functions.{max_depth};
 ghost use Rattle.job_lang.specs.Grammar.{header_of, project_of, print_of, form_of};
 ghost use Rattle.job_lang.specs.Slices.{texts};
 
@@ -29,7 +30,7 @@ const MAX_DEPTH: u64 = 16;
 /// The depth that the header `job 1 depth D` tells. None exactly where the words aren't that, or the depth is above 16.
 pub fn header_of(words: &[&[u8]]) -> Option<u8>
     ensures value { result ≡ header_of (texts words.now) }
-    ensures small { IfSome result (λ d. d ≤ 16) }
+    ensures small { IfSome result (λ d. d ≤ max_depth) }
 {
     let words = keyword(b"job", words)?;
     let words = keyword(b"1", words)?;

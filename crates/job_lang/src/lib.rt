@@ -1,4 +1,8 @@
 //! The job language: a text of lines becomes a job, or the first fault that stands in it.
+//!
+//! The first line that isn't empty or a comment is the header, `job 1 depth D`. Each line behind it is a command:
+//! `project NAME FUNC level N tol T`, where `FUNC` is `const C` or `ramp A B`, or `print NAME`. Words stand between
+//! spaces and tabs, and a line whose first word begins with `#` is a comment.
 #![tactic(auto)]
 
 mod accepted;

@@ -37,11 +37,3 @@ impl From<AllocError> for ParseError {
         ParseError::OutOfMemory
     }
 }
-
-impl From<tree_key::OutOfMemory> for ParseError {
-    ghost from_gives = { λ _ e. e ≡ OutOfMemory };
-
-    fn from(_error: tree_key::OutOfMemory) -> ParseError {
-        ParseError::OutOfMemory
-    }
-}

@@ -1,6 +1,6 @@
 ghost use Rattle.std.specs.Prelude.{◌≡◌, ◌+◌, ◌<◌, ◌≤◌, ◌^◌, ℕ, List, [], length, IfOk};
 ghost use Rattle.std.specs.Str.Lines.{lines};
-ghost use Rattle.tree_model.specs.Texts.{JobData};
+ghost use Rattle.tree_model.specs.Functions.{max_depth};
 ghost use Rattle.job_lang.specs.declared.fault.JobFault.{JobFault as FaultData};
 ghost use Rattle.job_lang.specs.Reading.{header_from, commands_from, reading_of};
 
@@ -24,10 +24,12 @@ struct Header<'a> {
 
 // The first line that isn't passed over has to be the header.
 fn header_from(alloc: Global, text: &[u8]) -> Result<Header, ParseError>
-    ensures ok { IfOk result (λ h. header_from 1 (lines text.now) ≡ Ok (record { depth = h.depth; number = h.number; rest = lines h.rest.now })) }
-    ensures depth { IfOk result (λ h. h.depth ≤ 16) }
+    ensures ok { IfOk result (λ h. header_from 1 (lines text.now)
+        ≡ Ok (record { depth = h.depth; number = h.number; rest = lines h.rest.now })) }
+    ensures depth { IfOk result (λ h. h.depth ≤ max_depth) }
     ensures number { IfOk result (λ h. h.number + length h.rest.now ≤ length text.now + 1) }
-    ensures fault { (fault : FaultData) → result ≡ Err (ParseError.Fault fault) → header_from 1 (lines text.now) ≡ Err fault }
+    ensures fault { (fault : FaultData) → result ≡ Err (ParseError.Fault fault) →
+        header_from 1 (lines text.now) ≡ Err fault }
 {
     let mut rest = text;
     let mut number = 1;
@@ -54,11 +56,12 @@ fn header_from(alloc: Global, text: &[u8]) -> Result<Header, ParseError>
 
 // The commands of all lines, of which the first has this number.
 fn commands_from(alloc: Global, depth: u8, number: u64, text: &[u8]) -> Result<Accepted, ParseError>
-    requires depth { depth ≤ 16 }
+    requires depth { depth ≤ max_depth }
     requires number { number + length text.now < 2 ^ 64 }
     ensures depth { IfOk result (λ a. a.depth ≡ depth) }
     ensures ok { IfOk result (λ a. commands_from depth [] number (lines text.now) ≡ Ok a.commands) }
-    ensures fault { (fault : FaultData) → result ≡ Err (ParseError.Fault fault) → commands_from depth [] number (lines text.now) ≡ Err fault }
+    ensures fault { (fault : FaultData) → result ≡ Err (ParseError.Fault fault) →
+        commands_from depth [] number (lines text.now) ≡ Err fault }
 {
     let mut accepted = Accepted::new(alloc, depth);
     let mut rest = text;
@@ -78,7 +81,8 @@ fn commands_from(alloc: Global, depth: u8, number: u64, text: &[u8]) -> Result<A
 /// `Fault` where the text isn't a job, with the first line that has a fault; `OutOfMemory` where there is no memory left.
 pub fn parse(alloc: Global, bytes: &[u8]) -> Result<Job, ParseError>
     ensures job { IfOk result (λ job. reading_of bytes.now ≡ Ok job) }
-    ensures fault { (fault : FaultData) → result ≡ Err (ParseError.Fault fault) → reading_of bytes.now ≡ Err fault }
+    ensures fault { (fault : FaultData) → result ≡ Err (ParseError.Fault fault) →
+        reading_of bytes.now ≡ Err fault }
 {
     let header = header_from(alloc, bytes)?;
     let accepted = commands_from(alloc, header.depth, header.number, header.rest)?;

@@ -1,6 +1,7 @@
 //! What `parse` answers, at texts whose readings were worked out by hand.
 use super::*;
 use std::alloc::{AllocError, Global};
+use std::process::Abort;
 use std::test::Fail;
 
 // The depth and the number of commands, or why there is no job.
@@ -32,42 +33,45 @@ fn trees(alloc: Global, count: u32) -> Result<Vec<u8>, AllocError> {
     Ok(text)
 }
 
+// What is wanted of each text.
+type Case<'a> = (&'a [u8], Result<(u8, usize), ParseError>);
+
+fn expect_outcomes(rt: &impl Abort, alloc: Global, cases: &[Case]) {
+    for (text, want) in cases {
+        assert_eq!(rt; outcome(alloc, text), *want, "at {text:?}");
+    }
+}
+
 #[test]
-fn answers_small_texts(rt: HostRuntime) -> Result<(), Fail> {
-    let cases: [(&[u8], Result<(u8, usize), ParseError>); 13] = [
+fn finds_the_header(rt: HostRuntime) {
+    let cases: [Case; 7] = [
         (b"", fault(1, 2)),
         (b"\n\n", fault(3, 2)),
         (b"job 1 depth 16", Ok((16, 0))),
         (b"job 1 depth 17\n", fault(1, 2)),
-        (
-            b"\n# a job\njob 1 depth 2\nproject f ramp 0 1 level 0 tol 0\nprint f\n",
-            Ok((2, 2)),
-        ),
-        (
-            b"job 1 depth 2\r\nproject f const 5 level 2 tol 3\r\n\r\nprint f\r\n",
-            Ok((2, 2)),
-        ),
-        (
-            b"\tjob\t1 depth  2\t\n \tproject\tf const 5 level 2 tol 3\n\tprint f \n",
-            Ok((2, 2)),
-        ),
-        (
-            b"job 1 depth 2\nproject f const 5 level 2 tol 3\nprint f\r",
-            fault(3, 3),
-        ),
-        (
-            b"job 1 depth 2\nproject \xc3\xa9 const 5 level 2 tol 3\n",
-            fault(2, 3),
-        ),
         (b"job 1 depth 2 \xff\n", fault(1, 2)),
         (b"# \xff\x00\xc3\x28\njob 1 depth 2\n#\xff", Ok((2, 0))),
-        (b"job 1 depth 2\nprint f\n", fault(2, 3)),
         (b"job 1 depth 2\nfence\njob 1 depth 2\n", fault(2, 3)),
     ];
-    for (text, want) in cases {
-        assert_eq!(rt; outcome(rt.alloc(), text), want, "at {text:?}");
-    }
-    Ok(())
+    expect_outcomes(&rt, rt.alloc(), &cases);
+}
+
+#[test]
+fn reads_lines_and_words(rt: HostRuntime) {
+    let line_feeds = b"\n# a\njob 1 depth 2\nproject f ramp 0 1 level 0 tol 0\nprint f\n";
+    let returns = b"job 1 depth 2\r\nproject f const 5 level 2 tol 3\r\n\r\nprint f\r\n";
+    let tabs = b"\tjob\t1 depth  2\t\n \tproject\tf const 5 level 2 tol 3\n\tprint f \n";
+    let return_at_end = b"job 1 depth 2\nproject f const 5 level 2 tol 3\nprint f\r";
+    let not_ascii = b"job 1 depth 2\nproject \xc3\xa9 const 5 level 2 tol 3\n";
+    let cases: [Case; 6] = [
+        (line_feeds, Ok((2, 2))),
+        (returns, Ok((2, 2))),
+        (tabs, Ok((2, 2))),
+        (return_at_end, fault(3, 3)),
+        (not_ascii, fault(2, 3)),
+        (b"job 1 depth 2\nprint f\n", fault(2, 3)),
+    ];
+    expect_outcomes(&rt, rt.alloc(), &cases);
 }
 
 #[test]
