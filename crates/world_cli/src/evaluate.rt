@@ -19,7 +19,8 @@ type Trees<'a> = BTreeMap<&'a [u8], Leaves>;
 
 // Gives a name a tree, in place of the one that it had.
 fn put<'a>(trees: &mut Trees<'a>, name: &'a [u8], leaves: Leaves) -> Result<(), OutOfMemory>
-    ensures { OnOk result ((other : List ℕ) → sums_at trees.new other ≡ (if bytes_eq other name.now then Some leaves.entries else sums_at trees.old other)) }
+    ensures { OnOk result ((other : List ℕ) → sums_at trees.new other
+        ≡ (if bytes_eq other name.now then Some leaves.entries else sums_at trees.old other)) }
 {
     trees.insert(name, leaves)?;
     Ok(())
@@ -42,8 +43,12 @@ fn run_command<'a>(
 ) -> Result<(), OutOfMemory>
     requires depth { depth ≤ 16 }
     requires limits { is_within_limits depth (data_of command.now) ≡ true }
-    ensures trees { OnOk result ((before : List CommandData) → HasTrees depth before trees.old → HasTrees depth (before ++ data_of command.now ∷ []) trees.new) }
-    ensures text { OnOk result ((before : List CommandData) → HasTrees depth before trees.old → text.new ≡ text.old ++ command_lines depth before (data_of command.now)) }
+    ensures trees { OnOk result ((before : List CommandData) →
+        HasTrees depth before trees.old →
+        HasTrees depth (before ++ data_of command.now ∷ []) trees.new) }
+    ensures text { OnOk result ((before : List CommandData) →
+        HasTrees depth before trees.old →
+        text.new ≡ text.old ++ command_lines depth before (data_of command.now)) }
 {
     match command {
         Command::Project {

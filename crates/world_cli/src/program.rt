@@ -25,7 +25,8 @@ fn is_run(words: &[String]) -> bool
 // Writes a text, and answers the status that goes with it, or that the sink failed.
 fn finish<K: Sink>(sink: &mut K, status: Status, text: &[u8]) -> u8
     requires { (piece : List ℕ) → K.fits sink.old piece }
-    ensures end { IsFinished result (code_of status) text.now (K.taken sink.old) (K.taken sink.new) (K.faults sink.old) (K.faults sink.new) }
+    ensures end { IsFinished result (code_of status) text.now
+        (K.taken sink.old) (K.taken sink.new) (K.faults sink.old) (K.faults sink.new) }
     ensures later { K.faults sink.old ≤ K.faults sink.new }
     ensures always { (piece : List ℕ) → K.fits sink.new piece }
     ensures made { K.made sink.new ≡ K.made sink.old }
@@ -59,21 +60,31 @@ pub fn world_main<S: Source, K: Sink>(
     requires { (piece : List ℕ) → K.fits sink.old piece }
 
     // Words that aren't `run` give the usage line, and leave the source as it is.
-    ensures usage { ¬ IsRun (map string_bytes words.now) → IsFinished result 1 usage_text (K.taken sink.old) (K.taken sink.new) (K.faults sink.old) (K.faults sink.new) }
+    ensures usage { ¬ IsRun (map string_bytes words.now) → IsFinished result 1 usage_text
+        (K.taken sink.old) (K.taken sink.new) (K.faults sink.old) (K.faults sink.new) }
     ensures usage_only { result ≡ 1 → ¬ IsRun (map string_bytes words.now) }
     ensures usage_unread { ¬ IsRun (map string_bytes words.now) → source.new ≡ source.old }
 
     // What each other status says: the bytes are those that the source told as left.
-    ensures done { result ≡ 0 → IsAnswered 0 (S.left source.old) (K.taken sink.old) (K.taken sink.new) }
-    ensures job_fault { result ≡ 2 → IsAnswered 2 (S.left source.old) (K.taken sink.old) (K.taken sink.new) }
+    ensures done { result ≡ 0 →
+        IsAnswered 0 (S.left source.old) (K.taken sink.old) (K.taken sink.new) }
+    ensures job_fault { result ≡ 2 →
+        IsAnswered 2 (S.left source.old) (K.taken sink.old) (K.taken sink.new) }
     ensures out_of_memory { result ≡ 4 → sink.new ≡ sink.old }
-    ensures read_fault { result ≡ 5 → Rose (S.faults source.old) (S.faults source.new) × (sink.new ≡ sink.old) }
+    ensures read_fault { result ≡ 5 →
+        Rose (S.faults source.old) (S.faults source.new) × (sink.new ≡ sink.old) }
     ensures write_fault { result ≡ 6 → Rose (K.faults sink.old) (K.faults sink.new) }
-    ensures write_cut { result ≡ 6 → IsRun (map string_bytes words.now) → IsCutAnswer (S.left source.old) (K.taken sink.old) (K.taken sink.new) }
+    ensures write_cut { result ≡ 6 → IsRun (map string_bytes words.now) →
+        IsCutAnswer (S.left source.old) (K.taken sink.old) (K.taken sink.new) }
     ensures known { IsStatus result }
 
     // Without a fault of source or sink a told input has its status, unless memory runs out.
-    ensures complete { (bytes : List ℕ) → IsRun (map string_bytes words.now) → S.left source.old ≡ Some bytes → ¬ Rose (S.faults source.old) (S.faults source.new) → ¬ Rose (K.faults sink.old) (K.faults sink.new) → (result ≡ (run_answer bytes).status) ⊎ (result ≡ 4) }
+    ensures complete { (bytes : List ℕ) →
+        IsRun (map string_bytes words.now) →
+        S.left source.old ≡ Some bytes →
+        ¬ Rose (S.faults source.old) (S.faults source.new) →
+        ¬ Rose (K.faults sink.old) (K.faults sink.new) →
+        (result ≡ (run_answer bytes).status) ⊎ (result ≡ 4) }
 
     // What stays whatever the answer.
     ensures source_faults { S.faults source.old ≤ S.faults source.new }

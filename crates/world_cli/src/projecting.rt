@@ -51,7 +51,8 @@ impl Projecting {
     // Whether the values at the first cells of the halves differ by more than the tolerance.
     fn differs(self, key: Key) -> bool
         requires { key.level < self.depth }
-        ensures { result ≡ differs self.depth (projection_of self.function self.level self.tolerance) key }
+        ensures { let p = projection_of self.function self.level self.tolerance in
+            result ≡ differs self.depth p key }
     {
         let left = self.value_at(key.child(false));
         let right = self.value_at(key.child(true));
@@ -60,7 +61,8 @@ impl Projecting {
 
     // Whether a key is split.
     fn is_split(self, key: Key) -> bool
-        ensures { result ≡ is_split self.depth (projection_of self.function self.level self.tolerance) key }
+        ensures { let p = projection_of self.function self.level self.tolerance in
+            result ≡ is_split self.depth p key }
     {
         key.level() < self.depth && (key.level() < self.level || self.differs(key))
     }
@@ -68,7 +70,8 @@ impl Projecting {
     // The sum over the box of a leaf.
     fn leaf_sum(self, key: Key) -> i64
         requires { key.level ≤ self.depth }
-        ensures { result ≡ pos (width self.depth key) *ℤ value_at (function_of self.function) (first_cell self.depth key) }
+        ensures { result
+            ≡ pos (width self.depth key) *ℤ value_at (function_of self.function) (first_cell self.depth key) }
     {
         let width = i64::from(1u32 << (self.depth - key.level()));
         let value = self.value_at(key);
@@ -84,10 +87,14 @@ impl Projecting {
         leaves: &mut Leaves,
     ) -> Result<Vec<Key>, AllocError>
         requires level { level ≤ self.depth }
-        requires row { row.now ≡ row_of self.depth (projection_of self.function self.level self.tolerance) level }
-        requires above { leaves.old.entries ≡ leaf_sums_above (projected self.depth (projection_of self.function self.level self.tolerance)) level }
-        ensures next { IfOk result (λ next. next.items ≡ row_of self.depth (projection_of self.function self.level self.tolerance) (level + 1)) }
-        ensures leaves { OnOk result (leaves.new.entries ≡ leaf_sums_above (projected self.depth (projection_of self.function self.level self.tolerance)) (level + 1)) }
+        requires row { let p = projection_of self.function self.level self.tolerance in
+            row.now ≡ row_of self.depth p level }
+        requires above { let p = projection_of self.function self.level self.tolerance in
+            leaves.old.entries ≡ leaf_sums_above (projected self.depth p) level }
+        ensures next { let p = projection_of self.function self.level self.tolerance in
+            IfOk result (λ next. next.items ≡ row_of self.depth p (level + 1)) }
+        ensures leaves { let p = projection_of self.function self.level self.tolerance in
+            OnOk result (leaves.new.entries ≡ leaf_sums_above (projected self.depth p) (level + 1)) }
     {
         let mut next = Vec::new(alloc);
         for key in row {
@@ -103,7 +110,8 @@ impl Projecting {
 
     /// The leaves of the tree in key order, each with the sum over its box.
     pub fn leaves(self, alloc: Global) -> Result<Leaves, AllocError>
-        ensures { IfOk result (λ leaves. leaves.entries ≡ leaf_sums (projected self.depth (projection_of self.function self.level self.tolerance))) }
+        ensures { let p = projection_of self.function self.level self.tolerance in
+            IfOk result (λ leaves. leaves.entries ≡ leaf_sums (projected self.depth p)) }
     {
         let mut leaves = BTreeMap::new(alloc);
         let mut row = vec![in alloc; Key::root()]?;
