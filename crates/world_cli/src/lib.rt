@@ -3,6 +3,7 @@
 
 mod answer;
 mod evaluate;
+mod examples;
 mod lines;
 mod program;
 mod projecting;
