@@ -7,3 +7,4 @@ pub mod Leaves
 pub mod Projected
 pub mod Order
 pub mod Steps
+mod Computed
