@@ -5,7 +5,7 @@ use Rattle.std.proofs.Math.Nat.{mul-le-mul_left}
 use Rattle.std.proofs.lemmas.Int.{ints}
 use Rattle.std.proofs.lemmas.Bool.Decides.{nat_tests}
 use Rattle.tree_model.specs.Functions.{Function, value_at, fits, max_value}
-use Rattle.tree_model.specs.Functions.Function.{Const, Ramp}
+use Rattle.tree_model.specs.Functions.Function.{Const, Ramp, Step, Box, Hash}
 
 -- between its first and its last value a ramp stays within what both are within
 ramp_within : (start slope : ℤ) (cell last limit : ℕ) → cell ≤ last → unsigned_abs start ≤ limit → unsigned_abs (start +ℤ slope *ℤ pos last) ≤ limit → unsigned_abs (start +ℤ slope *ℤ pos cell) ≤ limit
@@ -20,3 +20,6 @@ pub value-within : (depth : ℕ) (f : Function) (cell : ℕ) → fits depth f �
 value-within depth (Const constant) cell fit in_range = grind (arith, nat_tests)
 value-within depth (Ramp start slope) cell fit in_range =
     ramp_within start slope cell (2 ^ depth - 1) max_value (omega arith) (grind (arith, nat_tests)) (grind (arith, nat_tests))
+value-within depth (Step edge before behind) cell fit in_range = grind (arith, nat_tests)
+value-within depth (Box start end value) cell fit in_range = grind (arith, nat_tests)
+value-within depth (Hash seed modulus) cell fit in_range = grind (arith, nat_tests)

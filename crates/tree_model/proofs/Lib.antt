@@ -1,9 +1,13 @@
 pub mod FunctionLaws
+pub mod Integers
 pub mod Ranges
 pub mod Lists
 pub mod Ancestors
 pub mod Rows
 pub mod Leaves
+pub mod BoxSums
+pub mod InnerProducts
 pub mod Projected
 pub mod Order
 pub mod Steps
+mod Computed

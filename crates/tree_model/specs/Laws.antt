@@ -1,11 +1,12 @@
 -- What holds of the definitions, as one statement each.
-use Rattle.std.specs.Prelude.{◌≡◌, ℕ, ◌+◌, ◌^◌, ◌<◌, ◌≤◌, true, [], ◌∷◌, ◌++◌, map, pos, ◌*ℤ◌}
+use Rattle.std.specs.Prelude.{◌≡◌, ℕ, ◌+◌, ◌^◌, ◌<◌, ◌≤◌, true, false, [], ◌∷◌, ◌++◌, map, ℤ, pos, ◌+ℤ◌, ◌*ℤ◌, Some}
 use Rattle.std.specs.Int.RustNames.{unsigned_abs}
-use Rattle.std.specs.List.{flat_map}
-use Rattle.tree_key.specs.Keys.{Key, root, width, first_cell}
+use Rattle.std.specs.List.{flat_map, slice_get}
+use Rattle.tree_key.specs.Keys.{Key, root, child, width, first_cell, InBox}
 use Rattle.tree_model.specs.Functions.{Function, value_at, fits, max_value}
 use Rattle.tree_model.specs.Shapes.{is_leaf}
-use Rattle.tree_model.specs.Trees.{IsTree, box_sum}
+use Rattle.tree_model.specs.Trees.{Tree, IsTree, box_sum, difference}
+use Rattle.tree_model.specs.Products.{inner_product, is_common, inner_part}
 use Rattle.tree_model.specs.Project.{Projection, projected}
 use Rattle.tree_model.specs.Rows.{row, halves, whole_keys, with_sum, leaf_sums, leaf_sums_above}
 
@@ -32,3 +33,23 @@ pub record LeavesFollow : Type 0 where
   pub first : (depth : ℕ) (p : Projection) → leaf_sums_above (projected depth p) 0 ≡ []
   pub next : (depth : ℕ) (p : Projection) (level : ℕ) → leaf_sums_above (projected depth p) (level + 1) ≡ leaf_sums_above (projected depth p) level ++ map (with_sum (projected depth p)) (whole_keys depth p (row depth p level))
   pub all : (depth : ℕ) (p : Projection) → leaf_sums_above (projected depth p) (depth + 1) ≡ leaf_sums (projected depth p)
+
+-- the sum over a box is the sum over its left half and the sum over its right half
+abbrev pub SumsSplit : Type 0
+SumsSplit = (t : Tree) (k : Key) → k.level < t.depth → box_sum t k ≡ box_sum t (child k false) +ℤ box_sum t (child k true)
+
+-- the sum over a leaf's box is its width times the value at its first cell, or at any other
+abbrev pub LeavesHaveOneValue : Type 0
+LeavesHaveOneValue = (t : Tree) (leaf : Key) (cell : ℕ) (value : ℤ) → IsTree t → is_leaf t.shape leaf ≡ true → InBox t.depth leaf cell → slice_get t.cells cell ≡ Some value → box_sum t leaf ≡ pos (width t.depth leaf) *ℤ value
+
+-- what the differences add to the inner product, key by key
+pub record InnerPartsFollow (f g : Tree) : Type 0 where
+  pub common : (k : Key) → k.level < f.depth → is_common f g k ≡ true → inner_part f g k ≡ difference f k *ℤ difference g k +ℤ pos 2 *ℤ (inner_part f g (child k false) +ℤ inner_part f g (child k true))
+  pub other : (k : Key) → is_common f g k ≡ false → inner_part f g k ≡ pos 0
+
+abbrev pub InnerPartsFollowKeys : Type 0
+InnerPartsFollowKeys = (f g : Tree) → InnerPartsFollow f g
+
+-- the product of two sums, and what the differences add to it, is the sum of the products times the number of the cells
+abbrev pub ProductLaw : Type 0
+ProductLaw = (f g : Tree) → IsTree f → IsTree g → f.depth ≡ g.depth → box_sum f root *ℤ box_sum g root +ℤ inner_part f g root ≡ pos (2 ^ f.depth) *ℤ inner_product f g

@@ -1,6 +1,9 @@
+pub mod Mix
 pub mod Functions
 pub mod Shapes
 pub mod Trees
+pub mod Nodes
+pub mod Products
 pub mod Project
 pub mod Rows
 pub mod Commands

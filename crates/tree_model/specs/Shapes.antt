@@ -24,3 +24,7 @@ pub record IsShape (depth : ℕ) (shape : Key → Bool) : Type 0 where
 -- a key of the shape without children there
 abbrev pub is_leaf : (Key → Bool) → Key → Bool
 is_leaf shape k = shape k && not (shape (child k false))
+
+-- a key of the shape with children there
+abbrev pub is_interior : (Key → Bool) → Key → Bool
+is_interior shape k = shape k && shape (child k false)

@@ -1,7 +1,7 @@
 -- Trees: a function as a list of its values at the cells of a depth, with a shape.
-use Rattle.std.specs.Prelude.{◌≡◌, ℕ, ◌^◌, Bool, true, List, [], ◌∷◌, length, take, drop, ℤ, pos, ◌+ℤ◌}
+use Rattle.std.specs.Prelude.{◌≡◌, ℕ, ◌^◌, Bool, true, false, List, [], ◌∷◌, length, take, drop, ℤ, pos, ◌+ℤ◌, ◌-ℤ◌}
 use Rattle.std.specs.List.{slice_get}
-use Rattle.tree_key.specs.Keys.{Key, width, first_cell, InBox}
+use Rattle.tree_key.specs.Keys.{Key, child, width, first_cell, InBox}
 use Rattle.tree_model.specs.Shapes.{IsShape, is_leaf}
 
 pub record Tree : Type 0 where
@@ -26,3 +26,7 @@ box_values t k = take (width t.depth k) (drop (first_cell t.depth k) t.cells)
 
 abbrev pub box_sum : Tree → Key → ℤ
 box_sum t k = total (box_values t k)
+
+-- the sum over the left half of a box less the sum over the right half
+abbrev pub difference : Tree → Key → ℤ
+difference t k = box_sum t (child k false) -ℤ box_sum t (child k true)

@@ -1,0 +1,46 @@
+-- Sums and products of integers, each read as what is above zero less what is below.
+use Rattle.std.proofs.Common.{◌≡◌, ℕ, ◌+◌, ◌*◌, ℤ, pos, negsuc, ◌+ℤ◌, ◌-ℤ◌, ◌*ℤ◌, neg_ℤ, refl, sym, ◌∙◌, ap, arith}
+use Rattle.std.proofs.lemmas.Int.{ints}
+use borrow.Author.Differences.{up, down, sum_is_lem, product_is, neg_is}
+
+-- an equation of numbers, times both parts of an integer
+both_times : {m n : ℕ} (z : ℤ) → m ≡ n → (m * up z ≡ n * up z) × (m * down z ≡ n * down z)
+both_times z same = (ap (λ n. n * up z) same, ap (λ n. n * down z) same)
+
+pub sum-times : (a b c : ℤ) → (a +ℤ b) *ℤ c ≡ a *ℤ c +ℤ b *ℤ c
+sum-times a b c =
+    let parts = both_times c (sum_is_lem a b) in omega (arith, ints)
+
+pub times-sum : (a b c : ℤ) → a *ℤ (b +ℤ c) ≡ a *ℤ b +ℤ a *ℤ c
+times-sum a b c =
+    let parts = both_times a (sum_is_lem b c) in omega (arith, ints)
+
+pub times-times : (a b c : ℤ) → (a *ℤ b) *ℤ c ≡ a *ℤ (b *ℤ c)
+times-times a b c =
+    let left = product_is a b in
+    let left_up = both_times c left.0 in
+    let left_down = both_times c left.1 in
+    let right = product_is b c in
+    let right_up = both_times a right.0 in
+    let right_down = both_times a right.1 in
+    omega (arith, ints)
+
+pub neg-times : (a b : ℤ) → neg_ℤ a *ℤ b ≡ neg_ℤ (a *ℤ b)
+neg-times a b =
+    let turned = neg_is a in
+    let to_up = both_times b turned.0 in
+    let to_down = both_times b turned.1 in
+    omega (arith, ints)
+
+pub times-neg : (a b : ℤ) → a *ℤ neg_ℤ b ≡ neg_ℤ (a *ℤ b)
+times-neg a b =
+    let turned = neg_is b in
+    let to_up = both_times a turned.0 in
+    let to_down = both_times a turned.1 in
+    omega (arith, ints)
+
+-- the product of two sums and the product of the two differences are twice the products of the parts
+pub sums-and-differences : (a b c d : ℤ) → (a +ℤ b) *ℤ (c +ℤ d) +ℤ (a -ℤ b) *ℤ (c -ℤ d) ≡ pos 2 *ℤ (a *ℤ c +ℤ b *ℤ d)
+sums-and-differences a b c d =
+    rw (sum-times a b (c +ℤ d), times-sum a c d, times-sum b c d, sum-times a (neg_ℤ b) (c -ℤ d), times-sum a c (neg_ℤ d), times-sum (neg_ℤ b) c (neg_ℤ d), times-neg a d, neg-times b c, neg-times b (neg_ℤ d), times-neg b d, times-sum (pos 2) (a *ℤ c) (b *ℤ d))
+    (omega (arith, ints))
