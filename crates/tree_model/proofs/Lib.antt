@@ -11,3 +11,7 @@ pub mod Projected
 pub mod Order
 pub mod Steps
 mod Computed
+pub mod BelowLeaves
+pub mod Combined
+pub mod CombinedSums
+pub mod LeafSums

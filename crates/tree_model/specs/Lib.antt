@@ -9,3 +9,6 @@ pub mod Rows
 pub mod Commands
 pub mod Texts
 pub mod Laws
+pub mod Operations
+pub mod OperationTexts
+pub mod OperationLaws

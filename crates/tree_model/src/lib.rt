@@ -5,8 +5,13 @@
 
 mod examples;
 mod laws;
+mod operations;
 
 pub use laws::{
     leaves_are_constant, leaves_follow, projections_are_trees, rows_follow,
     values_stay_within_limits,
+};
+pub use operations::{
+    overflows_show_on_leaves, products_are_trees, products_on_leaves, refined_trees_are_trees,
+    sums_are_linear, trees_are_constant_below_leaves, weighted_sums_are_trees,
 };
