@@ -1,20 +1,14 @@
 -- The sums over boxes of what is made of two trees.
-use Rattle.std.proofs.Common.{◌≡◌, ℕ, zero, suc, List, [], ◌∷◌, length, map, take, drop, true, false, refl, sym, ◌∙◌, ap, arith, ℤ, pos, negsuc, ◌+ℤ◌, ◌-ℤ◌, ◌*ℤ◌}
+use Rattle.std.proofs.Common.{◌≡◌, ℕ, zero, suc, List, [], ◌∷◌, length, map, take, drop, true, false, refl, ◌∙◌, ap, arith, ℤ, pos, ◌+ℤ◌, ◌-ℤ◌, ◌*ℤ◌, neg_ℤ}
 use Rattle.std.specs.List.{zip, drop-map}
 use Rattle.std.proofs.lemmas.Int.{ints}
 use Rattle.std.proofs.lemmas.List.{length-take, length-drop, take-map}
-use Rattle.std.proofs.Math.IntN.{suc_ℤ, pred_ℤ, suc_ℤ-*ℤ, pred_ℤ-*ℤ, zero-*ℤ, *ℤ_comm}
+use Rattle.std.proofs.Math.IntN.{zero-*ℤ, *ℤ_comm}
 use Rattle.tree_key.specs.Keys.{Key, child, width, first_cell}
 use Rattle.tree_model.specs.OperationLaws.{SumsAreLinear}
 use Rattle.tree_model.specs.Operations.{weighted_sum}
 use Rattle.tree_model.specs.Trees.{Tree, total, box_sum, difference}
-
--- a statement that stays true one up and one down is true of each whole number
-every_integer : (P : ℤ → Type 0) → P (pos 0) → ((z : ℤ) → P z → P (suc_ℤ z)) → ((z : ℤ) → P z → P (pred_ℤ z)) → (z : ℤ) → P z
-every_integer P here up down (pos zero) = here
-every_integer P here up down (pos (suc n)) = up (pos n) (every_integer P here up down (pos n))
-every_integer P here up down (negsuc zero) = down (pos 0) here
-every_integer P here up down (negsuc (suc n)) = down (negsuc n) (every_integer P here up down (negsuc n))
+use Rattle.tree_model.proofs.Integers.{times-sum, times-neg}
 
 four-sum : (p q r s : ℤ) → p +ℤ q +ℤ (r +ℤ s) ≡ p +ℤ r +ℤ (q +ℤ s)
 four-sum p q r s = omega (arith, ints)
@@ -22,36 +16,8 @@ four-sum p q r s = omega (arith, ints)
 four-less : (p q r s : ℤ) → p +ℤ q -ℤ (r +ℤ s) ≡ p -ℤ r +ℤ (q -ℤ s)
 four-less p q r s = omega (arith, ints)
 
--- products of sums and of differences
-pub times-sum : (a x y : ℤ) → a *ℤ (x +ℤ y) ≡ a *ℤ x +ℤ a *ℤ y
-times-sum a x y = every_integer (λ z. z *ℤ (x +ℤ y) ≡ z *ℤ x +ℤ z *ℤ y) (rw (zero-*ℤ (x +ℤ y), zero-*ℤ x, zero-*ℤ y) refl)
-    (λ z same. rw (suc_ℤ-*ℤ z (x +ℤ y), suc_ℤ-*ℤ z x, suc_ℤ-*ℤ z y, same) (four-sum (z *ℤ x) (z *ℤ y) x y))
-    (λ z same. rw (pred_ℤ-*ℤ z (x +ℤ y), pred_ℤ-*ℤ z x, pred_ℤ-*ℤ z y, same) (four-less (z *ℤ x) (z *ℤ y) x y))
-    a
-
-less-apart : (p q x y : ℤ) → p -ℤ q +ℤ (x -ℤ y) ≡ p +ℤ x -ℤ (q +ℤ y)
-less-apart p q x y = omega (arith, ints)
-
-less-less : (p q x y : ℤ) → p -ℤ q -ℤ (x -ℤ y) ≡ p -ℤ x -ℤ (q -ℤ y)
-less-less p q x y = omega (arith, ints)
-
-pub times-less : (a x y : ℤ) → a *ℤ (x -ℤ y) ≡ a *ℤ x -ℤ a *ℤ y
-times-less a x y = every_integer (λ z. z *ℤ (x -ℤ y) ≡ z *ℤ x -ℤ z *ℤ y) (rw (zero-*ℤ (x -ℤ y), zero-*ℤ x, zero-*ℤ y) refl)
-    (λ z same. rw (suc_ℤ-*ℤ z (x -ℤ y), suc_ℤ-*ℤ z x, suc_ℤ-*ℤ z y, same) (less-apart (z *ℤ x) (z *ℤ y) x y))
-    (λ z same. rw (pred_ℤ-*ℤ z (x -ℤ y), pred_ℤ-*ℤ z x, pred_ℤ-*ℤ z y, same) (less-less (z *ℤ x) (z *ℤ y) x y))
-    a
-
-pub sum-times : (x y a : ℤ) → (x +ℤ y) *ℤ a ≡ x *ℤ a +ℤ y *ℤ a
-sum-times x y a = rw (*ℤ_comm (x +ℤ y) a, *ℤ_comm x a, *ℤ_comm y a) (times-sum a x y)
-
-less-times : (x y a : ℤ) → (x -ℤ y) *ℤ a ≡ x *ℤ a -ℤ y *ℤ a
-less-times x y a = rw (*ℤ_comm (x -ℤ y) a, *ℤ_comm x a, *ℤ_comm y a) (times-less a x y)
-
-pub times_assoc : (a b c : ℤ) → a *ℤ (b *ℤ c) ≡ a *ℤ b *ℤ c
-times_assoc a b c = every_integer (λ z. z *ℤ (b *ℤ c) ≡ z *ℤ b *ℤ c) (rw (zero-*ℤ (b *ℤ c), zero-*ℤ b, zero-*ℤ c) refl)
-    (λ z same. rw (suc_ℤ-*ℤ z (b *ℤ c), suc_ℤ-*ℤ z b, same) (sym (sum-times (z *ℤ b) b c)))
-    (λ z same. rw (pred_ℤ-*ℤ z (b *ℤ c), pred_ℤ-*ℤ z b, same) (sym (less-times (z *ℤ b) b c)))
-    a
+times-less : (a x y : ℤ) → a *ℤ (x -ℤ y) ≡ a *ℤ x -ℤ a *ℤ y
+times-less a x y = times-sum a x (neg_ℤ y) ∙ ap (λ z. a *ℤ x +ℤ z) (times-neg a y)
 
 -- parts of two lists side by side
 drop-zip : {X Y : Type 0} (n : ℕ) (xs : List X) (ys : List Y) → length xs ≡ length ys → drop n (zip xs ys) ≡ zip (drop n xs) (drop n ys)

@@ -19,7 +19,8 @@ use Rattle.tree_model.specs.Shapes.{is_key_of, is_leaf}
 use Rattle.tree_model.specs.Trees.{Tree, IsTree, total, box_sum}
 use Rattle.tree_model.proofs.BelowLeaves.{key-parts, key-from-parts, leaf-over, constant-below}
 use Rattle.tree_model.proofs.Combined.{leaf-is, value-in-zip, tree-at, product-tree}
-use Rattle.tree_model.proofs.CombinedSums.{slice, times_assoc}
+use Rattle.tree_model.proofs.CombinedSums.{slice}
+use Rattle.tree_model.proofs.Integers.{times-times}
 use Rattle.tree_model.proofs.Leaves.{box-within}
 
 -- the total of a list that has one value
@@ -89,7 +90,7 @@ sum-leaf t k is leaf =
     sum-whole t k is (is.shape.keys k parts.inside) parts.whole
 
 regroup : (w v u : ℤ) → w *ℤ (v *ℤ u) *ℤ w ≡ w *ℤ v *ℤ (w *ℤ u)
-regroup w v u = ap (λ z. z *ℤ w) (times_assoc w v u) ∙ sym (times_assoc (w *ℤ v) u w) ∙ ap (λ z. w *ℤ v *ℤ z) (*ℤ_comm u w)
+regroup w v u = ap (λ z. z *ℤ w) (sym (times-times w v u)) ∙ times-times (w *ℤ v) u w ∙ ap (λ z. w *ℤ v *ℤ z) (*ℤ_comm u w)
 
 -- both trees have one value on a leaf of their product
 pub product-leaves : ProductOnLeaves
