@@ -1,1 +1,3 @@
 pub mod Func
+pub mod Node
+pub mod Combinations

@@ -2,6 +2,8 @@ ghost use Rattle.std.specs.Prelude.{◌≡◌, ℕ, ◌^◌, ◌<◌, ◌≤◌,
 ghost use Rattle.std.specs.Int.RustNames.{unsigned_abs};
 ghost use Rattle.tree_model.specs.Functions.{value_at, fits, is_value, max_value, max_difference};
 
+use crate::mix::mix;
+
 /// A function on the cells of a depth.
 #[derive(Clone, Copy, Debug, PartialEq, Eq)]
 pub enum Func {
@@ -9,6 +11,12 @@ pub enum Func {
     Const(i64),
     /// A value at the first cell, and what is added from each cell to the next.
     Ramp(i64, i64),
+    /// A cell, the value at the cells before it, and the value from it on.
+    Step(u32, i64, i64),
+    /// The first cell of a range, the cell behind the range, and the value there. At all other cells the value is 0.
+    Box(u32, u32, i64),
+    /// A seed and a modulus: the numbers of SplitMix64 that begin with the seed, modulo the modulus.
+    Hash(u32, u32),
 }
 
 const MAX_VALUE: u64 = 1 << 24;
@@ -39,7 +47,8 @@ impl Func {
     ghost use Rattle.haar_node.specs.Func.{function_of};
 
     /// Whether the function may be named at this depth: the depth is at most 16, its values there are at most two to
-    /// the 24 in absolute value, and a slope at most two to the 25.
+    /// the 24 in absolute value, a slope is at most two to the 25, a step's cell and the ends of a range lie among the
+    /// cells or right behind them, the range doesn't end before it starts, and a modulus is from 1 to two to the 24.
     pub fn fits(&self, depth: u8) -> bool
         ensures { result ≡ fits depth (function_of self.now) }
     {
@@ -54,6 +63,11 @@ impl Func {
                     && is_value(start)
                     && is_value(ramp_value(start, slope, last))
             }
+            Func::Step(edge, before, behind) => {
+                edge <= 1 << depth && is_value(before) && is_value(behind)
+            }
+            Func::Box(start, end, value) => start <= end && end <= 1 << depth && is_value(value),
+            Func::Hash(_seed, modulus) => modulus >= 1 && u64::from(modulus) <= MAX_VALUE,
         }
     }
 
@@ -67,6 +81,11 @@ impl Func {
         match *self {
             Func::Const(constant) => constant,
             Func::Ramp(start, slope) => ramp_value(start, slope, x),
+            Func::Step(edge, before, _) if x < edge => before,
+            Func::Step(_, _, behind) => behind,
+            Func::Box(start, end, value) if start <= x && x < end => value,
+            Func::Box(..) => 0,
+            Func::Hash(seed, modulus) => (mix(seed, x) % u64::from(modulus)) as i64,
         }
     }
 }
@@ -119,6 +138,27 @@ mod tests {
             (Func::Ramp(0, 2 * LIMIT + 1), 0, false),
             (Func::Ramp(0, -2 * LIMIT), 0, true),
             (Func::Ramp(0, -2 * LIMIT - 1), 0, false),
+            // A step may stand before the first cell, or behind the last.
+            (Func::Step(0, 1, 2), 0, true),
+            (Func::Step(1, LIMIT, -LIMIT), 0, true),
+            (Func::Step(2, 1, 2), 0, false),
+            (Func::Step(65536, 1, 2), 16, true),
+            (Func::Step(65537, 1, 2), 16, false),
+            (Func::Step(1, LIMIT + 1, 0), 1, false),
+            (Func::Step(1, 0, -LIMIT - 1), 1, false),
+            (Func::Step(0, 0, 0), 17, false),
+            // A box may be empty, and may be all cells.
+            (Func::Box(2, 2, LIMIT), 1, true),
+            (Func::Box(0, 2, -LIMIT), 1, true),
+            (Func::Box(0, 3, 1), 1, false),
+            (Func::Box(2, 1, 1), 1, false),
+            (Func::Box(0, 0, LIMIT + 1), 1, false),
+            (Func::Box(0, 0, 0), 17, false),
+            (Func::Hash(0, 1), 16, true),
+            (Func::Hash(u32::MAX, 16_777_216), 0, true),
+            (Func::Hash(0, 0), 0, false),
+            (Func::Hash(0, 16_777_217), 0, false),
+            (Func::Hash(0, 1), 17, false),
         ];
         for (func, depth, expected) in cases {
             assert_eq!(rt; func.fits(depth), expected, "{func:?} at depth {depth}");
@@ -135,6 +175,17 @@ mod tests {
             (Func::Ramp(-5, 4), 2, 3, 7),
             (Func::Ramp(256, 256), 16, 65535, LIMIT),
             (Func::Ramp(LIMIT, -2 * LIMIT), 1, 1, -LIMIT),
+            (Func::Step(2, 7, -7), 2, 1, 7),
+            (Func::Step(2, 7, -7), 2, 2, -7),
+            (Func::Step(0, 7, -7), 2, 0, -7),
+            (Func::Step(4, 7, -7), 2, 3, 7),
+            (Func::Box(1, 3, 7), 2, 0, 0),
+            (Func::Box(1, 3, 7), 2, 1, 7),
+            (Func::Box(1, 3, 7), 2, 2, 7),
+            (Func::Box(1, 3, 7), 2, 3, 0),
+            (Func::Box(2, 2, 7), 2, 2, 0),
+            (Func::Hash(0, 1000), 0, 0, 535),
+            (Func::Hash(0, 1), 0, 0, 0),
         ];
         for (func, depth, x, expected) in cases {
             assert_eq!(rt; value(&rt, func, depth, x), expected, "{func:?} at {x}");

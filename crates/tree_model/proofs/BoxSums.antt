@@ -11,6 +11,7 @@ use Rattle.tree_key.proofs.BoxLemmas.{children_halve_the_box}
 use Rattle.tree_model.specs.Shapes.{is_leaf}
 use Rattle.tree_model.specs.Trees.{Tree, IsTree, total, box_sum}
 use Rattle.tree_model.specs.Rows.{both}
+use Rattle.tree_model.specs.Laws.{LeavesHaveOneValue}
 use Rattle.tree_model.proofs.Leaves.{box-within}
 
 -- the values of a list of cells on the box of a key
@@ -104,3 +105,12 @@ leaf_of_tree t leaf tree is =
           ∙ ap (λ o. unwrap_or o (pos 0)) same
           ∙ unwrap_or-slice_get t.cells first (pos 0)));
     }
+
+pub leaves_have_one_value : LeavesHaveOneValue
+leaves_have_one_value t leaf cell value tree is inside at =
+    let first = first_cell t.depth leaf in
+    let known = leaf_of_tree t leaf tree is in
+    let same : get_or t.cells first (pos 0) ≡ value = (sym (unwrap_or-slice_get t.cells first (pos 0)) ∙ ap (λ o. unwrap_or o (pos 0)) (sym (tree.constant leaf cell is inside) ∙ at)) in
+    total-are (get_or t.cells first (pos 0)) (values_on t.depth leaf t.cells) known.values
+    ∙ ap (λ n. pos n *ℤ get_or t.cells first (pos 0)) known.length
+    ∙ ap (λ z. pos (width t.depth leaf) *ℤ z) same

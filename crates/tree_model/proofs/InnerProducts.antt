@@ -52,7 +52,7 @@ total-products-are value (x ∷ xs) (y ∷ ys) are same =
     rw (are.0, total-products-are value xs ys are.1 (omega arith)) (sym (times-sum value y (total ys)))
 
 -- the sum of the products of two trees over the box of a key
-abbrev products_on : Tree → Tree → Key → ℤ
+abbrev pub products_on : Tree → Tree → Key → ℤ
 products_on f g k = total (values_on f.depth k (products f.cells g.cells))
 
 -- a list of one value: the product of the sums is the sum of the products times the length
@@ -128,7 +128,7 @@ product_on_leaf levels f g k tree_f tree_g same left in_f in_g other =
     ∙ ap (λ n. pos (2 ^ n) *ℤ products_on f g k) down
 
 -- and on the box of any key of both trees
-product_on : (levels : ℕ) (f g : Tree) (k : Key) → IsTree f → IsTree g → f.depth ≡ g.depth → k.level + levels ≡ f.depth → f.shape k ≡ true → g.shape k ≡ true → box_sum f k *ℤ box_sum g k +ℤ inner_part_down levels f g k ≡ pos (2 ^ levels) *ℤ products_on f g k
+pub product_on : (levels : ℕ) (f g : Tree) (k : Key) → IsTree f → IsTree g → f.depth ≡ g.depth → k.level + levels ≡ f.depth → f.shape k ≡ true → g.shape k ≡ true → box_sum f k *ℤ box_sum g k +ℤ inner_part_down levels f g k ≡ pos (2 ^ levels) *ℤ products_on f g k
 product_on zero f g k tree_f tree_g same left in_f in_g =
     elim (cases_Bool (is_common f g k)) [
       | inl common ↦

@@ -1,6 +1,9 @@
 -- Sums and products of integers, each read as what is above zero less what is below.
-use Rattle.std.proofs.Common.{◌≡◌, ℕ, ◌*◌, ℤ, pos, ◌+ℤ◌, ◌-ℤ◌, ◌*ℤ◌, neg_ℤ, ap, arith}
-use Rattle.std.proofs.lemmas.Int.{ints}
+use Rattle.std.proofs.Common.{◌≡◌, ℕ, ◌+◌, ◌*◌, ◌<◌, ◌≤◌, ℤ, pos, negsuc, ◌+ℤ◌, ◌-ℤ◌, ◌*ℤ◌, neg_ℤ, refl, sym, ◌∙◌, ap, arith}
+use Rattle.std.specs.Int.RustNames.{unsigned_abs}
+use Rattle.std.proofs.lemmas.Int.{ints, unsigned_abs-mul}
+use Rattle.std.proofs.lemmas.Nat.{mul-le}
+use Rattle.std.proofs.Math.Nat.{eq_of_mul-eq-mul_left}
 use borrow.Author.Differences.{up, down, sum_is_lem, product_is, neg_is}
 
 -- an equation of numbers, times both parts of an integer
@@ -44,3 +47,17 @@ pub sums-and-differences : (a b c d : ℤ) → (a +ℤ b) *ℤ (c +ℤ d) +ℤ (
 sums-and-differences a b c d =
     rw (sum-times a b (c +ℤ d), times-sum a c d, times-sum b c d, sum-times a (neg_ℤ b) (c -ℤ d), times-sum a c (neg_ℤ d), times-sum (neg_ℤ b) c (neg_ℤ d), times-neg a d, neg-times b c, neg-times b (neg_ℤ d), times-neg b d, times-sum (pos 2) (a *ℤ c) (b *ℤ d))
     (omega (arith, ints))
+
+-- a factor other than 0 leaves
+pub times-cancel : (n : ℕ) (a b : ℤ) → 0 < n → pos n *ℤ a ≡ pos n *ℤ b → a ≡ b
+times-cancel n a b some same =
+    let first = product_is (pos n) a in
+    let second = product_is (pos n) b in
+    let ups = eq_of_mul-eq-mul_left n some (up a) (up b) (omega (arith, ap up same)) in
+    let downs = eq_of_mul-eq-mul_left n some (down a) (down b) (omega (arith, ap down same)) in
+    omega (arith, ints)
+
+-- a product is at most the product of what its factors are at most
+pub product-within : (a b : ℤ) (m n : ℕ) → unsigned_abs a ≤ m → unsigned_abs b ≤ n → unsigned_abs (a *ℤ b) ≤ m * n
+product-within a b m n within_a within_b =
+    rw (unsigned_abs-mul a b) (mul-le (unsigned_abs a) (unsigned_abs b) m n within_a within_b)

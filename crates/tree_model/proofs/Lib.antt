@@ -7,6 +7,7 @@ pub mod Rows
 pub mod Leaves
 pub mod BoxSums
 pub mod InnerProducts
+pub mod Bounds
 pub mod Projected
 pub mod Order
 pub mod Steps

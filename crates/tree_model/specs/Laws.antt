@@ -1,11 +1,12 @@
 -- What holds of the definitions, as one statement each.
 use Rattle.std.specs.Prelude.{◌≡◌, ℕ, ◌+◌, ◌^◌, ◌<◌, ◌≤◌, true, false, [], ◌∷◌, ◌++◌, map, ℤ, pos, ◌+ℤ◌, ◌*ℤ◌, Some}
-use Rattle.std.specs.Int.RustNames.{unsigned_abs}
+use Rattle.std.specs.Int.RustNames.{unsigned_abs, int_rem}
 use Rattle.std.specs.List.{flat_map, slice_get}
 use Rattle.tree_key.specs.Keys.{Key, root, child, width, first_cell, InBox}
-use Rattle.tree_model.specs.Functions.{Function, value_at, fits, max_value}
+use Rattle.tree_model.specs.Functions.{Function, value_at, fits, max_value, max_depth}
 use Rattle.tree_model.specs.Shapes.{is_leaf}
-use Rattle.tree_model.specs.Trees.{Tree, IsTree, box_sum, difference}
+use Rattle.tree_model.specs.Trees.{Tree, IsTree, HasValues, box_sum, difference}
+use Rattle.tree_model.specs.Nodes.{Form, node, NumbersFit}
 use Rattle.tree_model.specs.Products.{inner_product, is_common, inner_part}
 use Rattle.tree_model.specs.Project.{Projection, projected}
 use Rattle.tree_model.specs.Rows.{row, halves, whole_keys, with_sum, leaf_sums, leaf_sums_above}
@@ -49,6 +50,19 @@ pub record InnerPartsFollow (f g : Tree) : Type 0 where
 
 abbrev pub InnerPartsFollowKeys : Type 0
 InnerPartsFollowKeys = (f g : Tree) → InnerPartsFollow f g
+
+-- the numbers of a tree that has values are within the limit of nodes
+abbrev pub NodesFit : Type 0
+NodesFit = (form : Form) (t : Tree) (k : Key) → HasValues t → t.depth ≤ max_depth → NumbersFit (node form t k)
+
+-- what the differences of two trees that have values add is small, and with the product of the sums it is a multiple of the
+-- number of the cells
+pub record PartsFit (f g : Tree) : Type 0 where
+  pub part : (k : Key) → unsigned_abs (inner_part f g k) ≤ 2 ^ 90
+  pub exact : int_rem (box_sum f root *ℤ box_sum g root +ℤ inner_part f g root) (pos (2 ^ f.depth)) ≡ pos 0
+
+abbrev pub InnerPartsFit : Type 0
+InnerPartsFit = (f g : Tree) → IsTree f → IsTree g → f.depth ≡ g.depth → f.depth ≤ max_depth → HasValues f → HasValues g → PartsFit f g
 
 -- the product of two sums, and what the differences add to it, is the sum of the products times the number of the cells
 abbrev pub ProductLaw : Type 0

@@ -1,7 +1,9 @@
 -- Trees: a function as a list of its values at the cells of a depth, with a shape.
-use Rattle.std.specs.Prelude.{◌≡◌, ℕ, ◌^◌, Bool, true, false, List, [], ◌∷◌, length, take, drop, ℤ, pos, ◌+ℤ◌, ◌-ℤ◌}
-use Rattle.std.specs.List.{slice_get}
+use Rattle.std.specs.Prelude.{◌≡◌, ℕ, ◌^◌, ◌≤◌, Bool, true, false, List, [], ◌∷◌, length, take, drop, ℤ, pos, ◌+ℤ◌, ◌-ℤ◌}
+use Rattle.std.specs.List.{All, slice_get}
+use Rattle.std.specs.Int.RustNames.{unsigned_abs}
 use Rattle.tree_key.specs.Keys.{Key, child, width, first_cell, InBox}
+use Rattle.tree_model.specs.Functions.{max_value}
 use Rattle.tree_model.specs.Shapes.{IsShape, is_leaf}
 
 pub record Tree : Type 0 where
@@ -14,6 +16,10 @@ pub record IsTree (t : Tree) : Type 0 where
   pub cells : length t.cells ≡ 2 ^ t.depth
   pub shape : IsShape t.depth t.shape
   pub constant : (leaf : Key) (cell : ℕ) → is_leaf t.shape leaf ≡ true → InBox t.depth leaf cell → slice_get t.cells cell ≡ slice_get t.cells (first_cell t.depth leaf)
+
+-- every value is one that a cell may have
+abbrev pub HasValues : Tree → Type 0
+HasValues t = All (λ z. unsigned_abs z ≤ max_value) t.cells
 
 -- the sum of a list
 abbrev pub total : List ℤ → ℤ

@@ -1,0 +1,5 @@
+use Rattle.tree_model.proofs.BoxSums.{leaves_have_one_value}
+use Rattle.haar_node.proofs.laws.leaves_have_one_value.Goals as goal
+
+pub returns : goal.returns
+returns c = leaves_have_one_value

@@ -1,0 +1,5 @@
+use Rattle.tree_model.proofs.InnerProducts.{product_law}
+use Rattle.haar_node.proofs.laws.product_law.Goals as goal
+
+pub returns : goal.returns
+returns c = product_law
