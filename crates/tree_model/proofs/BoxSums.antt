@@ -1,14 +1,14 @@
 -- The values of a list on the boxes of keys, and their sums.
-use Rattle.std.proofs.Common.{◌≡◌, ℕ, zero, suc, ◌+◌, ◌-◌, ◌*◌, ◌^◌, ◌<◌, ◌≤◌, List, [], ◌∷◌, ◌++◌, length, map, take, drop, get_or, unwrap_or, Bool, true, false, not, ◌&&◌, leb, ltb, ℤ, pos, ◌+ℤ◌, ◌*ℤ◌, refl, sym, ◌∙◌, ap, arith, zero-add}
-use Rattle.std.specs.List.{slice_get, AllByRecursion}
+use Rattle.std.proofs.Common.{◌≡◌, ℕ, suc, ◌+◌, ◌^◌, ◌<◌, ◌≤◌, List, [], ◌∷◌, ◌++◌, length, map, take, drop, get_or, unwrap_or, true, false, not, leb, ltb, ℤ, pos, ◌+ℤ◌, ◌*ℤ◌, sym, ◌∙◌, ap, arith}
+use Rattle.std.specs.List.{AllByRecursion}
 use Rattle.std.proofs.lemmas.Bool.{and_parts, leb-true, ltb-true}
 use Rattle.std.proofs.lemmas.List.{length-take, length-drop, get_or-take, get_or-drop, drop-drop}
 use Rattle.std.proofs.lemmas.Option.{unwrap_or-slice_get}
 use Rattle.std.proofs.Math.Seq.{take-add}
 use Rattle.std.proofs.Math.IntN.{suc_ℤ-*ℤ, +ℤ_comm, +ℤ_idl, +ℤ_idr, +ℤ_assoc, zero-*ℤ}
-use Rattle.tree_key.specs.Keys.{Key, child, width, first_cell, InBox}
+use Rattle.tree_key.specs.Keys.{Key, child, width, first_cell}
 use Rattle.tree_key.proofs.BoxLemmas.{children_halve_the_box}
-use Rattle.tree_model.specs.Shapes.{IsShape, is_key_of, is_leaf}
+use Rattle.tree_model.specs.Shapes.{is_leaf}
 use Rattle.tree_model.specs.Trees.{Tree, IsTree, total, box_sum}
 use Rattle.tree_model.specs.Rows.{both}
 use Rattle.tree_model.specs.Laws.{LeavesHaveOneValue}

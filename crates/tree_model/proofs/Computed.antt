@@ -1,5 +1,5 @@
 -- The definitions, computed. The numbers were worked out by hand; that of `hash` is from another program.
-use Rattle.std.proofs.Common.{◌≡◌, ℕ, ◌+◌, ◌*◌, ◌%◌, true, false, None, Some, pos, negsuc, refl}
+use Rattle.std.proofs.Common.{◌≡◌, true, false, None, Some, pos, negsuc, refl}
 use Rattle.tree_key.specs.Keys.{Key, root, child}
 use Rattle.tree_model.specs.Mix.{mix, state, output}
 use Rattle.tree_model.specs.Functions.{Function, value_at, fits}

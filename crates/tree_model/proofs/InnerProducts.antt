@@ -1,8 +1,7 @@
 -- The product law: inner products from sums and differences.
-use Rattle.std.proofs.Common.{◌≡◌, ℕ, zero, suc, ◌+◌, ◌-◌, ◌*◌, ◌^◌, ◌<◌, ◌≤◌, List, [], ◌∷◌, ◌++◌, length, map, take, drop, get_or, Bool, true, false, not, ◌&&◌, cond, ℤ, pos, ◌+ℤ◌, ◌-ℤ◌, ◌*ℤ◌, refl, sym, ◌∙◌, ap, subst, arith, add-one, ◌⊎◌, inl, inr}
+use Rattle.std.proofs.Common.{◌≡◌, ℕ, zero, suc, ◌+◌, ◌-◌, ◌*◌, ◌^◌, ◌<◌, ◌≤◌, List, [], ◌∷◌, length, take, drop, get_or, Bool, true, false, not, ◌&&◌, ℤ, pos, ◌+ℤ◌, ◌-ℤ◌, ◌*ℤ◌, refl, sym, ◌∙◌, ap, subst, arith, add-one, ◌⊎◌, inl, inr}
 use Rattle.std.specs.List.{zip}
 use Rattle.std.proofs.lemmas.Bool.{and_parts, cases_Bool}
-use Rattle.std.proofs.lemmas.Nat.{pow_pos}
 use Rattle.std.proofs.Math.IntN.{*ℤ_comm, *ℤ-zero, +ℤ_idr, +ℤ_assoc}
 use Rattle.std.proofs.lemmas.Int.{ints}
 use Rattle.std.proofs.lemmas.List.{take_all, length-map}
@@ -12,11 +11,10 @@ use Rattle.tree_key.specs.Keys.{Key, root, child, width, first_cell}
 use Rattle.tree_key.proofs.PowerLemmas.{twice}
 use Rattle.tree_model.specs.Shapes.{is_leaf, is_interior}
 use Rattle.tree_model.specs.Trees.{Tree, IsTree, total, box_sum, difference}
-use Rattle.tree_model.specs.Products.{products, inner_product, is_common, inner_part_down, inner_part}
+use Rattle.tree_model.specs.Products.{products, is_common, inner_part_down}
 use Rattle.tree_model.specs.Laws.{ProductLaw, InnerPartsFollow}
-use Rattle.tree_model.specs.Rows.{both}
-use Rattle.tree_model.proofs.Integers.{sum-times, times-sum, times-times, sums-and-differences}
-use Rattle.tree_model.proofs.BoxSums.{values_on, total-values_on, box_sum-children, total-append, Are, IsLeafOf, leaf_of_tree, total-are, key_of_tree, length-values_on}
+use Rattle.tree_model.proofs.Integers.{times-sum, times-times, sums-and-differences}
+use Rattle.tree_model.proofs.BoxSums.{values_on, total-values_on, box_sum-children, Are, leaf_of_tree, total-are, key_of_tree, length-values_on}
 
 products-nil : (xs : List ℤ) → products xs [] ≡ []
 products-nil [] = refl
