@@ -1,9 +1,8 @@
 -- Sums and products of signed numbers that fit, as code has them: each number is stored as bits, and read.
-use Rattle.std.proofs.Common.{◌≡◌, ℕ, ◌+◌, ◌*◌, ◌^◌, ◌≤◌, ℤ, ◌+ℤ◌, ◌*ℤ◌, arith}
+use Rattle.std.proofs.Common.{◌≡◌, ℤ, ◌+ℤ◌, ◌*ℤ◌}
 use Rattle.std.specs.Int.{Width, cast_signed, cast_unsigned}
-use Rattle.std.specs.Int.RustNames.{FitsSigned, unsigned_abs}
-use Rattle.std.proofs.lemmas.Int.{unsigned_abs-mul, to_z-of_z}
-use Rattle.std.proofs.lemmas.Nat.{mul-le}
+use Rattle.std.specs.Int.RustNames.{FitsSigned}
+use Rattle.std.proofs.lemmas.Int.{to_z-of_z}
 
 abbrev pub stored : Width → ℤ → ℤ
 stored width z = cast_signed width (cast_unsigned width z)

@@ -4,10 +4,9 @@ ghost use Rattle.tree_model.specs.Functions.{max_depth, max_value};
 ghost use Rattle.tree_model.specs.Nodes.{max_number};
 ghost use Rattle.haar_node.specs.Combinations.{IsLeafSum, leaf_value, IsInnerProduct};
 
+use crate::func::MAX_VALUE;
 use std::error::Error;
 use std::fmt;
-
-const MAX_VALUE: u64 = 1 << 24;
 
 /// A value of the result would be more than two to the 24 in absolute value.
 #[derive(Clone, Copy, Debug, PartialEq, Eq)]

@@ -19,7 +19,8 @@ pub enum Func {
     Hash(u32, u32),
 }
 
-const MAX_VALUE: u64 = 1 << 24;
+/// The largest value of a cell, in absolute value.
+pub(crate) const MAX_VALUE: u64 = 1 << 24;
 
 const MAX_SLOPE: u64 = 1 << 25;
 
@@ -67,6 +68,7 @@ impl Func {
                 edge <= 1 << depth && is_value(before) && is_value(behind)
             }
             Func::Box(start, end, value) => start <= end && end <= 1 << depth && is_value(value),
+            // A seed of any 32 bits will do: it is read so that its range is known.
             Func::Hash(_seed, modulus) => modulus >= 1 && u64::from(modulus) <= MAX_VALUE,
         }
     }

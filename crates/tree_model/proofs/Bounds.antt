@@ -1,22 +1,21 @@
 -- How large sums, differences and inner products of values are.
-use Rattle.std.proofs.Common.{◌≡◌, ℕ, zero, suc, ◌+◌, ◌-◌, ◌*◌, ◌%◌, ◌^◌, ◌<◌, ◌≤◌, List, [], ◌∷◌, length, take, drop, Bool, true, false, if◌then◌else◌, ◌==◌, Some, None, ℤ, pos, negsuc, neg_ℤ, ◌+ℤ◌, ◌-ℤ◌, ◌*ℤ◌, refl, sym, ◌∙◌, ap, arith, inl, inr}
+use Rattle.std.proofs.Common.{◌≡◌, ℕ, zero, suc, ◌+◌, ◌-◌, ◌*◌, ◌%◌, ◌^◌, ◌≤◌, List, [], ◌∷◌, length, take, drop, Bool, true, false, if◌then◌else◌, ◌==◌, Some, None, ℤ, pos, negsuc, neg_ℤ, ◌+ℤ◌, ◌*ℤ◌, ap, arith, inl, inr}
 use Rattle.std.specs.List.{All}
 use Rattle.std.specs.Int.RustNames.{unsigned_abs, int_rem}
 use Rattle.std.proofs.lemmas.Bool.{and_parts, cases_Bool}
 use Rattle.std.proofs.lemmas.Int.{ints}
 use Rattle.std.proofs.lemmas.List.{length-take}
 use Rattle.std.proofs.lemmas.List.Elements.{All-nil, All-cons, All-head, All-tail, All-take, All-drop}
-use Rattle.std.proofs.lemmas.Nat.{mul-le}
 use Rattle.std.proofs.Math.Nat.{pow-le-pow_right, mul-le-mul_right, mul-mod_right}
-use Rattle.tree_key.specs.Keys.{Key, root, child, width, first_cell}
+use Rattle.tree_key.specs.Keys.{Key, child, width, first_cell}
 use Rattle.tree_model.specs.Functions.{max_value, max_depth}
 use Rattle.tree_model.specs.Shapes.{is_leaf, is_interior}
 use Rattle.tree_model.specs.Trees.{Tree, IsTree, HasValues, total, box_sum, difference}
-use Rattle.tree_model.specs.Nodes.{Form, Node, node, compressed_root, compressed_below, NumbersFit, max_number}
+use Rattle.tree_model.specs.Nodes.{Node, compressed_root, compressed_below, NumbersFit, max_number}
 use Rattle.tree_model.specs.Nodes.Node.{Leaf, Branch, Inner, Root, Bare}
 use Rattle.tree_model.specs.Nodes.Form.{Reconstructed, Compressed}
-use Rattle.tree_model.specs.Products.{products, inner_product, is_common, inner_part_down, inner_part}
-use Rattle.tree_model.specs.Laws.{NodesFit, InnerPartsFit, PartsFit}
+use Rattle.tree_model.specs.Products.{products, inner_product, is_common, inner_part}
+use Rattle.tree_model.specs.Laws.{NodesFit, InnerPartsFit}
 use Rattle.tree_model.proofs.Integers.{product-within}
 use Rattle.tree_model.proofs.BoxSums.{values_on, key_of_tree}
 use Rattle.tree_model.proofs.InnerProducts.{products_on, product_on, product_law, inner_parts_follow}

@@ -1,4 +1,4 @@
-use Rattle.std.proofs.Common.{◌≡◌, ℕ, zero, suc, ◌+◌, ◌*◌, ◌/◌, ◌^◌, ◌<◌, ◌≤◌, w64, ℤ, pos, negsuc, neg_ℤ, ◌+ℤ◌, ◌*ℤ◌, refl, sym, ap, ◌∙◌, arith}
+use Rattle.std.proofs.Common.{◌≡◌, ℕ, zero, suc, ◌/◌, ◌^◌, ◌≤◌, w64, ℤ, pos, negsuc, neg_ℤ, ◌*ℤ◌, refl, ap, ◌∙◌, arith}
 use Rattle.std.specs.Int.RustNames.{FitsSigned, unsigned_abs, int_div}
 use Rattle.std.proofs.lemmas.Int.{ints, to_z-of_z, quot_is}
 use Rattle.std.proofs.Math.Nat.{div-le_of_le-mul}
