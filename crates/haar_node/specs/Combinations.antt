@@ -1,9 +1,11 @@
 -- What the combinations of nodes are given, and what they answer.
-use Rattle.std.specs.Prelude.{◌≡◌, ℕ, ◌*◌, ◌≤◌, ℤ, pos, int_div, int_rem}
+use Rattle.std.specs.Prelude.{◌≡◌, ℕ, ◌*◌, ◌≤◌, true, Some, ℤ, pos, int_div, int_rem}
+use Rattle.std.specs.List.{slice_get}
 use Rattle.std.specs.Int.RustNames.{unsigned_abs}
-use Rattle.tree_key.specs.Keys.{root}
+use Rattle.tree_key.specs.Keys.{Key, root, width, InBox}
 use Rattle.tree_model.specs.Functions.{max_value}
-use Rattle.tree_model.specs.Trees.{Tree, IsTree, box_sum}
+use Rattle.tree_model.specs.Shapes.{is_leaf}
+use Rattle.tree_model.specs.Trees.{Tree, IsTree, HasValues, box_sum}
 use Rattle.tree_model.specs.Products.{inner_product, inner_part}
 
 -- the sum over a leaf's box of this many cells: all have one value, within the limit of values
@@ -14,6 +16,17 @@ pub record IsLeafSum (sum : ℤ) (width : ℕ) : Type 0 where
 -- the value at each of the cells
 abbrev pub leaf_value : ℤ → ℕ → ℤ
 leaf_value sum width = int_div sum (pos width)
+
+-- the sum over a leaf of a tree that has values is such a sum, and the value is that of each cell of the leaf's box
+abbrev pub LeavesGiveTheirValues : Type 0
+LeavesGiveTheirValues =
+    (t : Tree) (leaf : Key) (cell : ℕ) (value : ℤ) →
+    IsTree t →
+    HasValues t →
+    is_leaf t.shape leaf ≡ true →
+    InBox t.depth leaf cell →
+    slice_get t.cells cell ≡ Some value →
+    IsLeafSum (box_sum t leaf) (width t.depth leaf) × (leaf_value (box_sum t leaf) (width t.depth leaf) ≡ value)
 
 -- the inner product of any two trees of this depth that have these sums, and whose differences add this much
 abbrev pub IsInnerProduct : (sum other part : ℤ) (depth : ℕ) (answer : ℤ) → Type 0

@@ -1,5 +1,6 @@
 //! What holds of sums, differences and inner products: each function's contract is a law, and its body is empty.
-ghost use Rattle.tree_model.specs.Laws.{SumsSplit, LeavesHaveOneValue, InnerPartsFollowKeys, ProductLaw, NodesFit, InnerPartsFit};
+ghost use Rattle.tree_model.specs.Laws.{SumsSplit, LeavesHaveOneValue, InnerPartsFollowKeys, ProductLaw, NodesFit, TreeSumsFit, InnerPartsFit};
+ghost use Rattle.haar_node.specs.Combinations.{LeavesGiveTheirValues};
 
 /// Above the depth, the sum over a key's box is the sum over its left half and the sum over its right half together. So
 /// [`join`](crate::join) of the sums of two halves gives the sum and the difference of the key, and
@@ -8,9 +9,11 @@ pub fn sums_split()
     ensures { SumsSplit }
 {}
 
-/// The sum over the box of a leaf is its width times the value that each of its cells has.
+/// The sum over the box of a leaf is its width times the value that each of its cells has. So
+/// [`combine_mul`](crate::combine_mul) may be given the sums of two trees on a box where both have one value.
 pub fn leaves_have_one_value()
-    ensures { LeavesHaveOneValue }
+    ensures sum { LeavesHaveOneValue }
+    ensures value { LeavesGiveTheirValues }
 {}
 
 /// Where a key has children in both trees, the differences there and below add the product of the two differences and
@@ -28,5 +31,6 @@ pub fn product_law()
 /// The numbers of trees whose values are within the limit meet what nodes and combinations ask of them.
 pub fn numbers_fit()
     ensures nodes { NodesFit }
+    ensures sums { TreeSumsFit }
     ensures parts { InnerPartsFit }
 {}

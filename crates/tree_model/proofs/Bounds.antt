@@ -1,5 +1,5 @@
 -- How large sums, differences and inner products of values are.
-use Rattle.std.proofs.Common.{◌≡◌, ℕ, zero, suc, ◌+◌, ◌-◌, ◌*◌, ◌%◌, ◌^◌, ◌≤◌, List, [], ◌∷◌, length, take, drop, Bool, true, false, if◌then◌else◌, ◌==◌, Some, None, ℤ, pos, negsuc, neg_ℤ, ◌+ℤ◌, ◌*ℤ◌, ap, arith, inl, inr}
+use Rattle.std.proofs.Common.{◌≡◌, ℕ, zero, suc, ◌+◌, ◌-◌, ◌*◌, ◌%◌, ◌^◌, ◌≤◌, List, [], ◌∷◌, length, take, drop, Bool, true, false, if◌then◌else◌, ◌==◌, Some, None, ℤ, pos, negsuc, neg_ℤ, ◌+ℤ◌, ◌-ℤ◌, ◌*ℤ◌, ap, ◌∙◌, arith, inl, inr}
 use Rattle.std.specs.List.{All}
 use Rattle.std.specs.Int.RustNames.{unsigned_abs, int_rem}
 use Rattle.std.proofs.lemmas.Bool.{and_parts, cases_Bool}
@@ -15,9 +15,9 @@ use Rattle.tree_model.specs.Nodes.{Node, compressed_root, compressed_below, Numb
 use Rattle.tree_model.specs.Nodes.Node.{Leaf, Branch, Inner, Root, Bare}
 use Rattle.tree_model.specs.Nodes.Form.{Reconstructed, Compressed}
 use Rattle.tree_model.specs.Products.{products, inner_product, is_common, inner_part}
-use Rattle.tree_model.specs.Laws.{NodesFit, InnerPartsFit}
+use Rattle.tree_model.specs.Laws.{NodesFit, TreeSumsFit, InnerPartsFit}
 use Rattle.tree_model.proofs.Integers.{product-within}
-use Rattle.tree_model.proofs.BoxSums.{values_on, key_of_tree}
+use Rattle.tree_model.proofs.BoxSums.{values_on, key_of_tree, box_sum-children}
 use Rattle.tree_model.proofs.InnerProducts.{products_on, product_on, product_law, inner_parts_follow}
 
 -- all numbers of a list are at most this in absolute value
@@ -123,9 +123,25 @@ no_rest_below : (n multiple : ℕ) → multiple % n ≡ 0 → int_rem (neg_ℤ (
 no_rest_below n zero none = ap pos none
 no_rest_below n (suc m) none = ap (λ rest. neg_ℤ (pos rest)) none
 
-no_rest : (n : ℕ) (z : ℤ) → int_rem (pos n *ℤ z) (pos n) ≡ pos 0
+pub no_rest : (n : ℕ) (z : ℤ) → int_rem (pos n *ℤ z) (pos n) ≡ pos 0
 no_rest n (pos m) = ap pos (mul-mod_right n m)
 no_rest n (negsuc m) = no_rest_below n (n * suc m) (mul-mod_right n (suc m))
+
+-- twice the left half
+sum_and_difference : (left right : ℤ) → (left +ℤ right) +ℤ (left -ℤ right) ≡ pos 2 *ℤ left
+sum_and_difference left right = omega (arith, ints)
+
+pub sums_fit : TreeSumsFit
+sums_fit t values shallow = record {
+  sums = λ k. box_sum-within t k values shallow;
+  differences = λ k. difference-within t k values shallow;
+  even = λ k above. (
+      let left = box_sum t (child k false) in
+      let right = box_sum t (child k true) in
+      ap (λ z. int_rem (z +ℤ difference t k) (pos 2)) (box_sum-children t k above)
+      ∙ ap (λ z. int_rem z (pos 2)) (sum_and_difference left right)
+      ∙ no_rest 2 left);
+}
 
 pub inner_parts_fit : InnerPartsFit
 inner_parts_fit f g tree_f tree_g same shallow values_f values_g = record {

@@ -6,7 +6,7 @@ use Rattle.tree_key.specs.Keys.{Key, root, child, width, first_cell, InBox}
 use Rattle.tree_model.specs.Functions.{Function, value_at, fits, max_value, max_depth}
 use Rattle.tree_model.specs.Shapes.{is_leaf}
 use Rattle.tree_model.specs.Trees.{Tree, IsTree, HasValues, box_sum, difference}
-use Rattle.tree_model.specs.Nodes.{Form, node, NumbersFit}
+use Rattle.tree_model.specs.Nodes.{Form, node, NumbersFit, max_number}
 use Rattle.tree_model.specs.Products.{inner_product, is_common, inner_part}
 use Rattle.tree_model.specs.Project.{Projection, projected}
 use Rattle.tree_model.specs.Rows.{row, halves, whole_keys, with_sum, leaf_sums, leaf_sums_above}
@@ -54,6 +54,15 @@ InnerPartsFollowKeys = (f g : Tree) → InnerPartsFollow f g
 -- the numbers of a tree that has values are within the limit of nodes
 abbrev pub NodesFit : Type 0
 NodesFit = (form : Form) (t : Tree) (k : Key) → HasValues t → t.depth ≤ max_depth → NumbersFit (node form t k)
+
+-- so are its sums and differences, and above the depth both are even or both odd
+pub record SumsFit (t : Tree) : Type 0 where
+  pub sums : (k : Key) → unsigned_abs (box_sum t k) ≤ 2 ^ 40
+  pub differences : (k : Key) → unsigned_abs (difference t k) ≤ max_number
+  pub even : (k : Key) → k.level < t.depth → int_rem (box_sum t k +ℤ difference t k) (pos 2) ≡ pos 0
+
+abbrev pub TreeSumsFit : Type 0
+TreeSumsFit = (t : Tree) → HasValues t → t.depth ≤ max_depth → SumsFit t
 
 -- what the differences of two trees that have values add is small, and with the product of the sums it is a multiple of the
 -- number of the cells
