@@ -62,7 +62,8 @@ pub fn combine_add(
     requires right { unsigned_abs right ≤ max_number }
     requires width { 1 ≤ width }
     ensures sum { IfOk result (λ z. z ≡ left_factor *ℤ left +ℤ right_factor *ℤ right) }
-    ensures over { IsErr result ↔ (width * max_value < unsigned_abs (left_factor *ℤ left +ℤ right_factor *ℤ right)) }
+    ensures over { IsErr result
+        ↔ (width * max_value < unsigned_abs (left_factor *ℤ left +ℤ right_factor *ℤ right)) }
 {
     let sum = left_factor * left + right_factor * right;
     if sum.unsigned_abs() > u64::from(width) * MAX_VALUE {
@@ -80,8 +81,10 @@ pub fn combine_mul(left: i64, right: i64, width: u32) -> Result<i64, Over>
     requires width { width ≤ 2 ^ 16 }
     requires left { IsLeafSum left width }
     requires right { IsLeafSum right width }
-    ensures product { IfOk result (λ z. z ≡ pos width *ℤ (leaf_value left width *ℤ leaf_value right width)) }
-    ensures over { IsErr result ↔ (max_value < unsigned_abs (leaf_value left width *ℤ leaf_value right width)) }
+    ensures product { IfOk result
+        (λ z. z ≡ pos width *ℤ (leaf_value left width *ℤ leaf_value right width)) }
+    ensures over { IsErr result
+        ↔ (max_value < unsigned_abs (leaf_value left width *ℤ leaf_value right width)) }
 {
     let cells = i64::from(width);
     let value = (left / cells) * (right / cells);

@@ -28,7 +28,8 @@ pub fn product_law()
     ensures { ProductLaw }
 {}
 
-/// The numbers of trees whose values are within the limit meet what nodes and combinations ask of them.
+/// The numbers of trees whose values are within the limit meet what nodes, [`join`](crate::join) and
+/// [`split`](crate::split), [`combine_inner`](crate::combine_inner) and [`finish_inner`](crate::finish_inner) ask of them.
 pub fn numbers_fit()
     ensures nodes { NodesFit }
     ensures sums { TreeSumsFit }
