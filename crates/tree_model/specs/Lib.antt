@@ -6,9 +6,11 @@ pub mod Nodes
 pub mod Products
 pub mod Project
 pub mod Rows
-pub mod Commands
 pub mod Texts
 pub mod Laws
 pub mod Operations
 pub mod OperationTexts
 pub mod OperationLaws
+pub mod Commands
+pub mod Versions
+pub mod Jobs
