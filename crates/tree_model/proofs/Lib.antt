@@ -16,3 +16,4 @@ pub mod BelowLeaves
 pub mod Combined
 pub mod CombinedSums
 pub mod LeafSums
+pub mod KeptLaws

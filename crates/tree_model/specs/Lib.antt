@@ -14,3 +14,4 @@ pub mod OperationLaws
 pub mod Commands
 pub mod Versions
 pub mod Jobs
+pub mod Kept

@@ -4,9 +4,14 @@
 #![tactic(auto)]
 
 mod examples;
+mod kept;
 mod laws;
 mod operations;
 
+pub use kept::{
+    kept_numbers_are_in_order, products_are_of_values, projections_have_values,
+    values_show_on_leaves, whole_boxes_have_one_value,
+};
 pub use laws::{
     leaves_are_constant, leaves_follow, projections_are_trees, rows_follow,
     values_stay_within_limits,
