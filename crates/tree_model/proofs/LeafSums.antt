@@ -58,7 +58,7 @@ total-slice from count xs v room each =
     total-same (slice from count xs) v (λ i below. at i (omega arith)) ∙ ap (λ n. pos n *ℤ v) all
 
 -- the value at the first cell of a box
-abbrev first_value : Tree → Key → ℤ
+abbrev pub first_value : Tree → Key → ℤ
 first_value t k = get_or t.cells (first_cell t.depth k) (pos 0)
 
 -- the first cell of a key of the depth is a cell
@@ -69,14 +69,14 @@ first-within depth k key =
     let some = pow_pos (depth - k.level) in
     omega arith
 
-first-is : (t : Tree) (k : Key) → IsTree t → is_key_of t.depth k ≡ true → slice_get t.cells (first_cell t.depth k) ≡ Some (first_value t k)
+pub first-is : (t : Tree) (k : Key) → IsTree t → is_key_of t.depth k ≡ true → slice_get t.cells (first_cell t.depth k) ≡ Some (first_value t k)
 first-is t k is key =
     let within = first-within t.depth k key in
     let cells = is.cells in
     slice_get-get_or t.cells (first_cell t.depth k) (pos 0) (omega arith)
 
 -- the sum over the box of a key without children
-sum-whole : (t : Tree) (k : Key) → IsTree t → is_key_of t.depth k ≡ true → t.shape (child k false) ≡ false → box_sum t k ≡ pos (width t.depth k) *ℤ first_value t k
+pub sum-whole : (t : Tree) (k : Key) → IsTree t → is_key_of t.depth k ≡ true → t.shape (child k false) ≡ false → box_sum t k ≡ pos (width t.depth k) *ℤ first_value t k
 sum-whole t k is key none =
     let parts = key-parts t.depth k key in
     let room = box-within t.depth k parts.level parts.at in
@@ -145,7 +145,7 @@ in_cell_key depth cell =
     record { from = omega arith; below = omega arith }
 
 -- some leaf has the cell of a value that is too much
-leaf-overflows : (t : Tree) → IsTree t → overflows t ≡ true → (k : Key) × IsOverLeaf t k
+pub leaf-overflows : (t : Tree) → IsTree t → overflows t ≡ true → (k : Key) × IsOverLeaf t k
 leaf-overflows t is over =
     let found = passing (λ z. not (is_value z)) t.cells over in
     let cell = found.at in
@@ -163,7 +163,7 @@ leaf-overflows t is over =
     let size : unsigned_abs (box_sum t leaf.leaf) ≡ w * unsigned_abs (first_value t leaf.leaf) = (ap unsigned_abs (sum-leaf t leaf.leaf is leaf.is) ∙ unsigned_abs-mul (pos w) (first_value t leaf.leaf)) in
     (leaf.leaf, record { leaf = leaf.is; over = rw size (mul-lt-mul_of_pos_left much (pow_pos (t.depth - leaf.leaf.level))) })
 
-leaf-shows : (t : Tree) → IsTree t → ((k : Key) × IsOverLeaf t k) → overflows t ≡ true
+pub leaf-shows : (t : Tree) → IsTree t → ((k : Key) × IsOverLeaf t k) → overflows t ≡ true
 leaf-shows t is shown =
     let k = shown.0 in
     let leaf = shown.1.leaf in

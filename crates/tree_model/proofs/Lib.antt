@@ -16,4 +16,6 @@ pub mod BelowLeaves
 pub mod Combined
 pub mod CombinedSums
 pub mod LeafSums
+pub mod WholeBoxes
+pub mod ValueLimits
 pub mod KeptLaws
