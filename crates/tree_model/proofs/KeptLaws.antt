@@ -1,6 +1,7 @@
 -- What an evaluator of commands rests on.
 use Rattle.tree_model.specs.Kept.{WholeBoxesAreEven, WholeBoxesHaveOneValue, ProductsOfValues, ProductsOverflow, LeavesWithin, ValuesDontOverflow, ProjectionsHaveValues, RefinedHaveValues, LeavesInOrder, DifferencesInOrder, LeavesAtKeys}
 use Rattle.tree_model.proofs.WholeBoxes.{boxes-are-even, boxes-have-one-value}
+use Rattle.tree_model.proofs.KeptOrder.{sums-in-order, interior-in-order, sums-at-keys}
 use Rattle.tree_model.proofs.ValueLimits.{within-on-leaves, no-overflow, projected-values, refined-values}
 
 pub whole-boxes-are-even : WholeBoxesAreEven
@@ -28,10 +29,10 @@ pub refined-have-values : RefinedHaveValues
 refined-have-values = refined-values
 
 pub leaves-in-order : LeavesInOrder
-leaves-in-order t m tree ordered at = ?
+leaves-in-order = sums-in-order
 
 pub differences-in-order : DifferencesInOrder
-differences-in-order t m tree ordered at = ?
+differences-in-order = interior-in-order
 
 pub leaves-at-keys : LeavesAtKeys
-leaves-at-keys t m k tree entries = ?
+leaves-at-keys = sums-at-keys

@@ -18,4 +18,7 @@ pub mod CombinedSums
 pub mod LeafSums
 pub mod WholeBoxes
 pub mod ValueLimits
+pub mod SameEntries
+pub mod KeyOrder
+pub mod KeptOrder
 pub mod KeptLaws
