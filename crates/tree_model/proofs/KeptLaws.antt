@@ -1,6 +1,7 @@
 -- What an evaluator of commands rests on.
 use Rattle.tree_model.specs.Kept.{WholeBoxesAreEven, WholeBoxesHaveOneValue, ProductsOfValues, ProductsOverflow, LeavesWithin, ValuesDontOverflow, ProjectionsHaveValues, RefinedHaveValues, LeavesInOrder, DifferencesInOrder, LeavesAtKeys}
 use Rattle.tree_model.proofs.WholeBoxes.{boxes-are-even, boxes-have-one-value}
+use Rattle.tree_model.proofs.LeafProducts.{sums-of-values, much-on-a-leaf}
 use Rattle.tree_model.proofs.KeptOrder.{sums-in-order, interior-in-order, sums-at-keys}
 use Rattle.tree_model.proofs.ValueLimits.{within-on-leaves, no-overflow, projected-values, refined-values}
 
@@ -11,10 +12,10 @@ pub whole-boxes-have-one-value : WholeBoxesHaveOneValue
 whole-boxes-have-one-value = boxes-have-one-value
 
 pub products-of-values : ProductsOfValues
-products-of-values f g k left right same leaf = ?
+products-of-values = sums-of-values
 
 pub products-overflow : ProductsOverflow
-products-overflow f g k left right same leaf over = ?
+products-overflow = much-on-a-leaf
 
 pub leaves-within : LeavesWithin
 leaves-within = within-on-leaves

@@ -92,9 +92,16 @@ sum-leaf t k is leaf =
 regroup : (w v u : ℤ) → w *ℤ (v *ℤ u) *ℤ w ≡ w *ℤ v *ℤ (w *ℤ u)
 regroup w v u = ap (λ z. z *ℤ w) (sym (times-times w v u)) ∙ times-times (w *ℤ v) u w ∙ ap (λ z. w *ℤ v *ℤ z) (*ℤ_comm u w)
 
--- both trees have one value on a leaf of their product
-pub product-leaves : ProductOnLeaves
-product-leaves f g k is is_own same leaf =
+-- both trees have one value on a leaf of their product, and the sums over it are the width times these and their product
+pub record HasProduct (f g : Tree) (k : Key) : Type 0 where
+  pub left : ℤ
+  pub right : ℤ
+  pub left_sum : box_sum f k ≡ pos (width f.depth k) *ℤ left
+  pub right_sum : box_sum g k ≡ pos (width f.depth k) *ℤ right
+  pub sum : box_sum (product f g) k ≡ pos (width f.depth k) *ℤ (left *ℤ right)
+
+pub product-on-leaf : (f g : Tree) (k : Key) → IsTree f → IsTree g → f.depth ≡ g.depth → is_leaf (union f.shape g.shape) k ≡ true → HasProduct f g k
+product-on-leaf f g k is is_own same leaf =
     let other : Tree = record { depth = f.depth; cells = g.cells; shape = g.shape } in
     let is_other : IsTree other = tree-at f.depth g same is_own in
     let made : Tree = product f g in
@@ -109,11 +116,19 @@ product-leaves f g k is is_own same leaf =
     let there : slice_get made.cells (first_cell f.depth k) ≡ Some (first_value made k) = first-is made k is_made key in
     let values : Some (first_value made k) ≡ Some (v *ℤ u) = sym there ∙ value in
     let first : first_value made k ≡ v *ℤ u = cc in
-    let whole : box_sum made k ≡ w *ℤ (v *ℤ u) = (sum-leaf made k is_made leaf ∙ ap (λ z. w *ℤ z) first) in
-    let one : box_sum f k ≡ w *ℤ v = sum-whole f k is key none.0 in
-    let two : box_sum other k ≡ w *ℤ u = sum-whole other k is_other key none.1 in
-    let two_own : box_sum other k ≡ box_sum g k = ap (λ d. total (slice (first_cell d k) (width d k) g.cells)) same in
-    rw (whole, one, ← two_own, two) (regroup w v u)
+    let own : box_sum g k ≡ box_sum other k = ap (λ d. total (slice (first_cell d k) (width d k) g.cells)) (sym same) in
+    record {
+      left = v;
+      right = u;
+      left_sum = sum-whole f k is key none.0;
+      right_sum = own ∙ sum-whole other k is_other key none.1;
+      sum = sum-leaf made k is_made leaf ∙ ap (λ z. w *ℤ z) first;
+    }
+
+pub product-leaves : ProductOnLeaves
+product-leaves f g k is is_own same leaf =
+    let on_leaf = product-on-leaf f g k is is_own same leaf in
+    rw (on_leaf.sum, on_leaf.left_sum, on_leaf.right_sum) (regroup (pos (width f.depth k)) on_leaf.left on_leaf.right)
 
 -- a place of a list whose element passes a test
 record Passes (p : ℤ → Bool) (zs : List ℤ) : Type 0 where

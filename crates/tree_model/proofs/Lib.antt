@@ -21,4 +21,5 @@ pub mod ValueLimits
 pub mod SameEntries
 pub mod KeyOrder
 pub mod KeptOrder
+pub mod LeafProducts
 pub mod KeptLaws
