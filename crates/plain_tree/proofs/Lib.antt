@@ -1,0 +1,4 @@
+pub mod Under
+pub mod FillingLemmas
+pub mod ShapeLemmas
+pub mod Reading

@@ -1,0 +1,6 @@
+//! The serial evaluator.
+#![tactic(auto)]
+
+mod command_error;
+mod compressing;
+mod numbers;
