@@ -1,11 +1,11 @@
 -- The numbers that are kept of a tree at its keys, as the entries of a map.
-use Rattle.std.proofs.Common.{◌≡◌, ℕ, List, Bool, true, false, not, cond, Some, None, refl, sym, ◌∙◌, ap, ℤ}
+use Rattle.std.proofs.Common.{◌≡◌, true, false, not, sym, ◌∙◌, ap}
 use Rattle.std.specs.BTreeMap.{is_at}
 use Rattle.std.specs.Map.{lookup}
 use Rattle.std.proofs.lemmas.Bool.{and_parts}
 use Rattle.tree_key.specs.Keys.{Key, child, key_cmp}
 use Rattle.tree_model.specs.Rows.{leaf_sums}
-use Rattle.tree_model.specs.Shapes.{IsShape, is_key_of, is_leaf, is_interior}
+use Rattle.tree_model.specs.Shapes.{is_key_of, is_leaf, is_interior}
 use Rattle.tree_model.specs.Trees.{Tree, IsTree, box_sum, difference}
 use Rattle.tree_model.specs.Kept.{leaf_sum_at, difference_at, interior_differences, LeavesInOrder, DifferencesInOrder, LeavesAtKeys}
 use Rattle.tree_model.proofs.SameEntries.{same-entries}

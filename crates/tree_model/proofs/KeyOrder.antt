@@ -1,16 +1,16 @@
 -- The keys down to a depth come in key order, so that a map's entries at some of them are read by their keys.
-use Rattle.std.proofs.Common.{◌≡◌, ℕ, zero, suc, ◌+◌, ◌^◌, ◌<◌, ◌≤◌, List, [], ◌∷◌, ◌++◌, map, filter, Bool, true, false, cond, Option, Some, None, inl, inr, ltb, eqb, refl, sym, ◌∙◌, ap, arith, Less}
+use Rattle.std.proofs.Common.{◌≡◌, ℕ, zero, suc, ◌+◌, ◌^◌, ◌<◌, ◌≤◌, List, [], ◌∷◌, ◌++◌, map, filter, Bool, true, false, cond, Some, None, inl, inr, ltb, eqb, refl, sym, ◌∙◌, ap, arith, Less}
 use Rattle.std.specs.List.{flat_map, range_with_len, list_any, AllByRecursion}
 use Rattle.std.specs.List.Sorted.{IsStrictlySortedBy}
 use Rattle.std.specs.Map.{lookup, keys_of}
-use Rattle.std.proofs.lemmas.Bool.{cases_Bool, or_cases, or_left, or_right, lt-ltb, le-ltb, ne_eqb, eq-eqb, cases_lt}
+use Rattle.std.proofs.lemmas.Bool.{cases_Bool, or_left, or_right, lt-ltb, le-ltb, eq-eqb, cases_lt}
 use Rattle.std.proofs.lemmas.List.Folds.{list_any-append}
 use Rattle.std.proofs.lemmas.List.Kept.{IsStrictlySortedBy-filter}
 use Rattle.tree_key.specs.Keys.{Key, key_cmp}
 use Rattle.tree_key.proofs.BoxLemmas.{same_key}
 use Rattle.tree_model.specs.Shapes.{keys_on, keys, is_key_of}
 use Rattle.tree_model.proofs.BelowLeaves.{key-parts}
-use Rattle.tree_model.proofs.Order.{all-append, all-flat_map, all-implies}
+use Rattle.tree_model.proofs.Order.{all-append, all-flat_map}
 use Rattle.tree_model.proofs.SameEntries.{is_same, same-itself, key-from-same}
 use Rattle.tree_model.proofs.Rows.{IsOn, all-range, all-map, all-keys_on}
 

@@ -1,13 +1,12 @@
 -- Products on leaves, from the values there.
-use Rattle.std.proofs.Common.{◌≡◌, ℕ, ◌-◌, ◌*◌, ◌^◌, ◌<◌, ◌∙◌, ap, ℤ, pos, ◌*ℤ◌}
+use Rattle.std.proofs.Common.{◌≡◌, ℕ, ◌-◌, ◌*◌, ◌∙◌, ap, ℤ, pos, ◌*ℤ◌}
 use Rattle.std.specs.Int.RustNames.{unsigned_abs, int_div}
 use Rattle.std.proofs.lemmas.Int.{unsigned_abs-mul}
 use Rattle.std.proofs.lemmas.Nat.{pow_pos}
 use Rattle.std.proofs.Math.Nat.{mul-lt-mul_of_pos_left}
 use Rattle.tree_key.specs.Keys.{Key, width}
-use Rattle.tree_model.specs.Functions.{max_value}
 use Rattle.tree_model.specs.Operations.{product}
-use Rattle.tree_model.specs.Trees.{Tree, box_sum}
+use Rattle.tree_model.specs.Trees.{box_sum}
 use Rattle.tree_model.specs.Kept.{value_of, ProductsOfValues, ProductsOverflow}
 use Rattle.tree_model.proofs.Combined.{product-tree}
 use Rattle.tree_model.proofs.Integers.{quotient-of-multiple}

@@ -69,7 +69,7 @@ first-within depth k key =
     let some = pow_pos (depth - k.level) in
     omega arith
 
-pub first-is : (t : Tree) (k : Key) → IsTree t → is_key_of t.depth k ≡ true → slice_get t.cells (first_cell t.depth k) ≡ Some (first_value t k)
+first-is : (t : Tree) (k : Key) → IsTree t → is_key_of t.depth k ≡ true → slice_get t.cells (first_cell t.depth k) ≡ Some (first_value t k)
 first-is t k is key =
     let within = first-within t.depth k key in
     let cells = is.cells in

@@ -27,7 +27,7 @@ rising-range level from (suc count) = (
   rising-range level (from + 1) count,
 )
 
-pub all-implies : {X : Type 0} (P Q : X → Type 0) (xs : List X) → ((x : X) → P x → Q x) → AllByRecursion P xs → AllByRecursion Q xs
+all-implies : {X : Type 0} (P Q : X → Type 0) (xs : List X) → ((x : X) → P x → Q x) → AllByRecursion P xs → AllByRecursion Q xs
 all-implies P Q [] each all = tt
 all-implies P Q (x ∷ xs) each all = (each x all.0, all-implies P Q xs each all.1)
 

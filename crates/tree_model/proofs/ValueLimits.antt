@@ -1,15 +1,15 @@
 -- Trees whose values are ones that a cell may have.
-use Rattle.std.proofs.Common.{◌≡◌, ℕ, ◌+◌, ◌-◌, ◌*◌, ◌/◌, ◌^◌, ◌<◌, ◌≤◌, length, List, get_or, inl, inr, Bool, true, false, not, refl, sym, ◌∙◌, ap, arith, ℤ, pos}
+use Rattle.std.proofs.Common.{◌≡◌, ℕ, ◌+◌, ◌^◌, ◌<◌, ◌≤◌, get_or, inl, inr, Bool, true, false, not, ap, arith, ℤ}
 use Rattle.std.specs.Int.RustNames.{unsigned_abs}
-use Rattle.std.specs.List.{All, list_any, range_with_len}
-use Rattle.std.proofs.lemmas.Bool.{leb-true, le-leb, cases_lt, lt-leb, not_from_false, false_from_ne_true}
+use Rattle.std.specs.List.{range_with_len}
+use Rattle.std.proofs.lemmas.Bool.{le-leb, cases_lt, lt-leb, not_from_false, false_from_ne_true}
 use Rattle.std.proofs.lemmas.List.Elements.{All-weaker, All-from_recursion, All-map}
 use Rattle.std.proofs.lemmas.List.Folds.{list_any_none, list_any_at}
 use Rattle.std.proofs.Math.Nat.{div-mul-le_self}
 use Rattle.tree_key.specs.Keys.{Key, width, first_cell}
 use Rattle.tree_model.specs.Functions.{value_at, is_value, max_value}
 use Rattle.tree_model.specs.Operations.{overflows}
-use Rattle.tree_model.specs.Project.{Projection, projected_shape, leaf_over}
+use Rattle.tree_model.specs.Project.{projected_shape, leaf_over}
 use Rattle.tree_model.specs.Trees.{Tree, HasValues}
 use Rattle.tree_model.specs.Kept.{LeavesWithin, ValuesDontOverflow, ProjectionsHaveValues, RefinedHaveValues}
 use Rattle.tree_model.proofs.FunctionLaws.{value-within}

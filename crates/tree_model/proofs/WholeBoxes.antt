@@ -1,6 +1,5 @@
 -- The sums over boxes that a tree doesn't cut: a leaf's, or one below it.
-use Rattle.std.proofs.Common.{◌≡◌, ℕ, ◌+◌, ◌^◌, ◌<◌, Bool, true, false, unwrap_or, inl, inr, refl, sym, ◌∙◌, ap, arith, ℤ, pos, ◌*ℤ◌}
-use Rattle.std.specs.List.{slice_get}
+use Rattle.std.proofs.Common.{◌≡◌, ℕ, ◌<◌, Bool, true, false, unwrap_or, inl, inr, sym, ◌∙◌, ap, arith, pos, ◌*ℤ◌}
 use Rattle.std.proofs.lemmas.Bool.{false_from_ne_true}
 use Rattle.std.proofs.lemmas.Int.{ints}
 use Rattle.std.proofs.lemmas.Option.{unwrap_or-slice_get}
