@@ -2,3 +2,5 @@ pub mod Under
 pub mod FillingLemmas
 pub mod ShapeLemmas
 pub mod Reading
+pub mod AddingLemmas
+pub mod Results

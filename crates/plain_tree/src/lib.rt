@@ -1,6 +1,7 @@
 //! The serial evaluator.
 #![tactic(auto)]
 
+mod adding;
 mod command_error;
 mod compressing;
 mod numbers;
