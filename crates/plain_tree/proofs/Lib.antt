@@ -2,3 +2,4 @@ pub mod Under
 pub mod FillingLemmas
 pub mod ShapeLemmas
 pub mod Reading
+pub mod ReadingDifferences

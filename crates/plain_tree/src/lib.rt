@@ -4,3 +4,4 @@
 mod command_error;
 mod compressing;
 mod numbers;
+mod reconstructing;
