@@ -3,3 +3,4 @@ pub mod FillingLemmas
 pub mod ShapeLemmas
 pub mod Reading
 pub mod ReadingDifferences
+pub mod ReadingInnerProducts

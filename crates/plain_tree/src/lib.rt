@@ -3,5 +3,6 @@
 
 mod command_error;
 mod compressing;
+mod inner_products;
 mod numbers;
 mod reconstructing;
