@@ -73,7 +73,15 @@ pub record AreSplit (whole number : ℤ) : Type 0 where
   pub apart : unsigned_abs number ≤ max_number
   pub even : int_rem (whole +ℤ number) (pos 2) ≡ pos 0
 
-pub splits : (t : Tree) (k : Key) (whole number : ℤ) → IsSound t → k.level < t.depth → FitsSigned w64 whole → FitsSigned w64 number → whole ≡ box_sum t k → number ≡ difference t k → AreSplit (to_z w64 (of_z w64 whole)) (to_z w64 (of_z w64 number))
+pub splits :
+    (t : Tree) (k : Key) (whole number : ℤ) →
+    IsSound t →
+    k.level < t.depth →
+    FitsSigned w64 whole →
+    FitsSigned w64 number →
+    whole ≡ box_sum t k →
+    number ≡ difference t k →
+    AreSplit (to_z w64 (of_z w64 whole)) (to_z w64 (of_z w64 number))
 splits t k whole number sound above fits_whole fits_number s d =
     let small = sums_fit t sound.values sound.depth in
     let sum = small.sums k in

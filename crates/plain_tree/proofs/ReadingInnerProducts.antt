@@ -100,5 +100,6 @@ finishes f g depth left right part left_differences right_differences is_f is_g 
       small_left = sum-small-enough f root left sound_f fits_left is_f.all;
       small_right = sum-small-enough g root right sound_g fits_right is_g.all;
       small_part = omega arith;
-      exact = rw (passed left fits_left, passed right fits_right, passed-wide part fits_part, is_f.all, is_g.all, p) (subst (λ d. int_rem (box_sum f root *ℤ box_sum g root +ℤ inner_part f g root) (pos (2 ^ d)) ≡ pos 0) is_f.deep whole);
+      exact = rw (passed left fits_left, passed right fits_right, passed-wide part fits_part, is_f.all, is_g.all, p)
+          (subst (λ d. int_rem (box_sum f root *ℤ box_sum g root +ℤ inner_part f g root) (pos (2 ^ d)) ≡ pos 0) is_f.deep whole);
     }

@@ -1,4 +1,4 @@
-use Rattle.std.proofs.Common.{sym, ◌∙◌, ap, rules, Some}
+use Rattle.std.proofs.Common.{sym, ◌∙◌, ap, rules, Some, arith}
 use Rattle.std.proofs.lemmas.Result.{on_ok_weaker}
 use Rattle.tree_model.specs.Kept.{leaf_sum_at}
 use Rattle.plain_tree.proofs.FillingLemmas.{fills-top, fills-halves}
@@ -24,19 +24,27 @@ split-left-requires-clause-even t c =
     let halves = halves-with c.requires.0 c.args.differences.now c.args.key c.in-Some.difference keeps (sym c.in-Some.ensures) in
     (splits c.requires.0 c.args.key c.args.sum c.in-Some.difference keeps.sound halves.above (search rules) (search rules) c.requires.3 halves.apart).even
 
+pub child-requires : goal.child-requires
+child-requires t c =
+    let keeps = c.requires.1 in
+    let halves = halves-with c.requires.0 c.args.differences.now c.args.key c.in-Some.difference keeps (sym c.in-Some.ensures) in
+    omega (arith, halves.above, keeps.sound.depth)
+
 pub reconstruct_below-requires : goal.reconstruct_below-requires
 reconstruct_below-requires t c =
     let tree = c.requires.0 in
     let keeps = c.requires.1 in
     let halves = halves-with tree c.args.differences.now c.args.key c.in-Some.difference keeps (sym c.in-Some.ensures) in
-    (search rules, (tree, keeps, rw c.child.ensures halves.left, rw c.child.ensures (left-half tree c.args.key c.split-left.result.0 c.args.sum c.in-Some.difference halves.above (search rules) (search rules) (search rules) c.requires.3 halves.apart c.split-left.ensures.left)))
+    let left = left-half tree c.args.key c.split-left.result.0 c.args.sum c.in-Some.difference halves.above (search rules) (search rules) (search rules) c.requires.3 halves.apart c.split-left.ensures.left in
+    (search rules, (tree, keeps, rw c.child.ensures halves.left, rw c.child.ensures left))
 
 pub reconstruct_below-requires-in-Some : goal.reconstruct_below-requires-in-Some
 reconstruct_below-requires-in-Some t c =
     let tree = c.requires.0 in
     let keeps = c.requires.1 in
     let halves = halves-with tree c.args.differences.now c.args.key c.in-Some.difference keeps (sym c.in-Some.ensures) in
-    (search rules, (tree, keeps, rw c.child-in-Some.ensures halves.right, rw c.child-in-Some.ensures (right-half tree c.args.key c.split-left.result.1 c.args.sum c.in-Some.difference halves.above (search rules) (search rules) (search rules) c.requires.3 halves.apart c.split-left.ensures.right)))
+    let right = right-half tree c.args.key c.split-left.result.1 c.args.sum c.in-Some.difference halves.above (search rules) (search rules) (search rules) c.requires.3 halves.apart c.split-left.ensures.right in
+    (search rules, (tree, keeps, rw c.child-in-Some.ensures halves.right, rw c.child-in-Some.ensures right))
 
 pub returns-in_ok-reconstruct_below-in-Some : goal.returns-in_ok-reconstruct_below-in-Some
 returns-in_ok-reconstruct_below-in-Some t c =
