@@ -4,3 +4,5 @@ pub mod ShapeLemmas
 pub mod Reading
 pub mod AddingLemmas
 pub mod Results
+pub mod ReadingDifferences
+pub mod ReadingInnerProducts

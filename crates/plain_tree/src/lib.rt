@@ -4,4 +4,6 @@
 mod adding;
 mod command_error;
 mod compressing;
+mod inner_products;
 mod numbers;
+mod reconstructing;
