@@ -1,21 +1,21 @@
 -- What the checks of commands say of one more command.
-use Rattle.std.proofs.Common.{◌≡◌, ℕ, ◌+◌, Bool, false, List, [], ◌∷◌, ◌++◌, map, refl, sym, ◌∙◌, ap, true, append_assoc, append-nil, arith}
-use Rattle.std.specs.Prelude.{◌&&◌, ◌||◌, if◌then◌else◌, Option, Some, None}
-use Rattle.std.specs.Int.{from_bool}
-use Rattle.std.specs.List.{list_any}
+use Rattle.std.proofs.Common.{◌≡◌, ℕ, zero, suc, ◌+◌, ◌<◌, Bool, false, length, take, drop, get_or, List, [], ◌∷◌, ◌++◌, map, refl, sym, ◌∙◌, ap, true, append_assoc, append-nil, arith}
+use Rattle.std.specs.Prelude.{◌&&◌, ◌||◌, if◌then◌else◌, Option, Some, None, IfSome}
+use Rattle.std.specs.Bool.{then_some}
+use Rattle.std.specs.Option.{option_map}
+use Rattle.std.proofs.lemmas.Bool.{and_parts}
+use Rattle.std.proofs.lemmas.List.{map-append, take_more}
 use Rattle.std.proofs.lemmas.Option.{cond_some}
 use Rattle.std.proofs.Math.Bool.{and_assoc, and-true}
 use Rattle.tree_model.specs.Commands.{Command}
-use Rattle.tree_model.specs.Texts.{JobData}
-use Rattle.job_lang.specs.Accepted.{IsCounted}
+use Rattle.tree_model.specs.Jobs.{JobData}
+use Rattle.job_lang.specs.declared.command.Command.{Command as CommandCode}
+use Rattle.job_lang.specs.Data.{data_of}
+use Rattle.job_lang.specs.Checks.{IsJob}
 use Rattle.job_lang.specs.Grammar.{◌>>=◌, Words, Form, form_of, command_of_form}
 use Rattle.job_lang.specs.Limits.{limited_command}
 use Rattle.job_lang.specs.Reading.{command_of_words}
 use Rattle.job_lang.specs.Checks.{brings_tree, trees_behind, is_within_limits, may_follow, is_accepted, are_accepted}
-
-pub list_any-map : {X Y : Type 0} (p : Y → Bool) (f : X → Y) (xs : List X) → list_any p (map f xs) ≡ list_any (λ x. p (f x)) xs
-list_any-map p f [] = refl
-list_any-map p f (x ∷ xs) = ap (λ b. p (f x) || b) (list_any-map p f xs)
 
 -- one more command, behind all others
 pub trees_behind-append : (before cs : List Command) (c : Command) → trees_behind before (cs ++ c ∷ []) ≡ trees_behind before cs + (if brings_tree (before ++ cs) c then 1 else 0)
@@ -30,18 +30,11 @@ are_accepted-append depth before (d ∷ cs) c =
     let more = rw append_assoc at (are_accepted-append depth (before ++ d ∷ []) cs c) in
     rw more (sym (and_assoc (is_accepted depth before d) (are_accepted depth (before ++ d ∷ []) cs) (is_accepted depth (before ++ d ∷ cs) c)))
 
-one_or_none : (b : Bool) → from_bool b ≡ (if b then 1 else 0)
-one_or_none true = refl
-one_or_none false = refl
-
 -- a command that is accepted behind those of a job makes a job with them
-pub IsCounted-push : (job : JobData) (trees : ℕ) (c : Command) → IsCounted job trees → is_accepted job.depth job.commands c ≡ true → IsCounted (record { depth = job.depth; commands = job.commands ++ c ∷ [] }) (trees + from_bool (brings_tree job.commands c))
-IsCounted-push job trees c counted accepted = record {
-  is_job = record {
-    depth = counted.is_job.depth;
-    commands = rw (are_accepted-append job.depth [] job.commands c, counted.is_job.commands) accepted;
-  };
-  count = rw (trees_behind-append [] job.commands c, counted.count, one_or_none (brings_tree job.commands c)) refl;
+pub IsJob-push : (job : JobData) (c : Command) → IsJob job → is_accepted job.depth job.commands c ≡ true → IsJob (record { depth = job.depth; commands = job.commands ++ c ∷ [] })
+IsJob-push job c is_job accepted = record {
+  depth = is_job.depth;
+  commands = rw (are_accepted-append job.depth [] job.commands c, is_job.commands) accepted;
 }
 
 -- two tests of a value, one after the other
@@ -60,13 +53,63 @@ command_of_words-form : (depth : ℕ) (before : List Command) (words : Words) (f
 command_of_words-form depth before words form c is_form is_command =
     rw (is_form, both (command_of_form form) (is_within_limits depth) (may_follow before), is_command) refl
 
-pub command_of_words-accepted : (depth : ℕ) (before : List Command) (words : Words) (form : Form) (c : Command) → form_of words ≡ Some form → limited_command depth form ≡ Some c → may_follow before c ≡ true → command_of_words depth before words ≡ Some c
-command_of_words-accepted depth before words form c is_form is_command follows =
-    command_of_words-form depth before words form c is_form is_command ∙ ap (λ b. if b then Some c else None) follows
-
-pub command_of_words-refused : (depth : ℕ) (before : List Command) (words : Words) (form : Form) (c : Command) → form_of words ≡ Some form → limited_command depth form ≡ Some c → may_follow before c ≡ false → command_of_words depth before words ≡ None
-command_of_words-refused depth before words form c is_form is_command follows =
-    command_of_words-form depth before words form c is_form is_command ∙ ap (λ b. if b then Some c else None) follows
-
-pub accepted-limited : (depth : ℕ) (before : List Command) (form : Form) (c : Command) → limited_command depth form ≡ Some c → may_follow before c ≡ true → is_accepted depth before c ≡ true
+accepted-limited : (depth : ℕ) (before : List Command) (form : Form) (c : Command) → limited_command depth form ≡ Some c → may_follow before c ≡ true → is_accepted depth before c ≡ true
 accepted-limited depth before form c is follows = rw (tested (command_of_form form) (is_within_limits depth) c is) follows
+
+chosen : (b : Bool) (o : Option CommandCode) (c : CommandCode) → o ≡ then_some b c → option_map data_of o ≡ (if b then Some (data_of c) else None)
+chosen true o c is = ap (option_map data_of) is
+chosen false o c is = ap (option_map data_of) is
+
+-- the answer to a line of a form whose numbers are within their limits
+pub command_of_words-chosen : (depth : ℕ) (before : List Command) (words : Words) (form : Form) (c : CommandCode) (o : Option CommandCode) → form_of words ≡ Some form → limited_command depth form ≡ Some (data_of c) → o ≡ then_some (may_follow before (data_of c)) c → option_map data_of o ≡ command_of_words depth before words
+command_of_words-chosen depth before words form c o is_form is_command is =
+    chosen (may_follow before (data_of c)) o c is ∙ sym (command_of_words-form depth before words form (data_of c) is_form is_command)
+
+pub accepted-chosen : (depth : ℕ) (before : List Command) (form : Form) (c : CommandCode) (o : Option CommandCode) → limited_command depth form ≡ Some (data_of c) → o ≡ then_some (may_follow before (data_of c)) c → IfSome o (λ d. is_accepted depth before (data_of d) ≡ true)
+accepted-chosen depth before form c o is_command is =
+    elim (may_follow before (data_of c)) as (λ b. may_follow before (data_of c) ≡ b → o ≡ then_some b c → IfSome o (λ d. is_accepted depth before (data_of d) ≡ true)) [
+      | true ↦ λ follows some. rw some (accepted-limited depth before form (data_of c) is_command follows)
+      | false ↦ λ follows none. rw none tt
+    ] refl is
+
+and_false : (a b : Bool) → b ≡ false → (a && b) ≡ false
+and_false true b is = is
+and_false false b is = refl
+
+refused : (depth : ℕ) (before xs : List Command) (c : Command) (ys : List Command) → is_accepted depth (before ++ xs) c ≡ false → are_accepted depth before (xs ++ c ∷ ys) ≡ false
+refused depth before [] c ys is =
+    let here = rw append-nil at is in
+    rw here refl
+refused depth before (d ∷ xs) c ys is = and_false (is_accepted depth before d) (are_accepted depth (before ++ d ∷ []) (xs ++ c ∷ ys)) (refused depth (before ++ d ∷ []) xs c ys (rw append_assoc is))
+
+pub map-take-more : {A : Type 0} (f : A → Command) (cs : List A) (i : ℕ) (x : A) → i < length cs → x ≡ get_or cs i x → map f (take (i + 1) cs) ≡ map f (take i cs) ++ f x ∷ []
+map-take-more f cs i x below is =
+    ap (map f) (take_more cs i x below ∙ ap (λ y. take i cs ++ y ∷ []) (sym is)) ∙ map-append f (take i cs) (x ∷ [])
+
+cut : {A : Type 0} (f : A → Command) (cs : List A) (i : ℕ) (x : A) → i < length cs → x ≡ get_or cs i x → map f cs ≡ map f (take i cs) ++ f x ∷ map f (drop (suc i) cs)
+cut f [] i x below is = absurd (omega arith)
+cut f (c ∷ cs) zero x below is = ap (λ y. f y ∷ map f cs) (sym is)
+cut f (c ∷ cs) (suc i) x below is = ap (λ rest. f c ∷ rest) (cut f cs i x (omega arith) is)
+
+-- the commands up to a place are accepted, and the one there isn't: so not all are
+pub are_accepted-refused : {A : Type 0} (f : A → Command) (depth : ℕ) (cs : List A) (i : ℕ) (x : A) → i < length cs → x ≡ get_or cs i x → is_accepted depth (map f (take i cs)) (f x) ≡ false → are_accepted depth [] (map f cs) ≡ false
+are_accepted-refused f depth cs i x below is no_more =
+    ap (are_accepted depth []) (cut f cs i x below is) ∙ refused depth [] (map f (take i cs)) (f x) (map f (drop (suc i) cs)) no_more
+
+-- and the one there is: so are those up to the next place
+pub are_accepted-more : (depth : ℕ) (cs : List Command) (c : Command) → are_accepted depth [] cs ≡ true → is_accepted depth cs c ≡ true → are_accepted depth [] (cs ++ c ∷ []) ≡ true
+are_accepted-more depth cs c all here = are_accepted-append depth [] cs c ∙ rw (all, here) refl
+
+pub follows-accepted : (depth : ℕ) (cs : List Command) (c : Command) → is_accepted depth cs c ≡ true → may_follow cs c ≡ true
+follows-accepted depth cs c is = (and_parts (is_within_limits depth c) (may_follow cs c) is).1
+
+-- each command of accepted ones is accepted behind those before it, and so it is within its limits
+pub are_accepted-at : (depth : ℕ) (before cs : List Command) (i : ℕ) (d : Command) → are_accepted depth before cs ≡ true → i < length cs → is_accepted depth (before ++ take i cs) (get_or cs i d) ≡ true
+are_accepted-at depth before [] i d all below = absurd (omega arith)
+are_accepted-at depth before (c ∷ cs) zero d all below = rw append-nil (and_parts (is_accepted depth before c) (are_accepted depth (before ++ c ∷ []) cs) all).0
+are_accepted-at depth before (c ∷ cs) (suc i) d all below =
+    let here = and_parts (is_accepted depth before c) (are_accepted depth (before ++ c ∷ []) cs) all in
+    rw append_assoc at (are_accepted-at depth (before ++ c ∷ []) cs i d here.1 (omega arith))
+
+pub accepted-at : (depth : ℕ) (before cs : List Command) (i : ℕ) (d : Command) → are_accepted depth before cs ≡ true → i < length cs → is_within_limits depth (get_or cs i d) ≡ true
+accepted-at depth before cs i d all below = (and_parts (is_within_limits depth (get_or cs i d)) (may_follow (before ++ take i cs) (get_or cs i d)) (are_accepted-at depth before cs i d all below)).0

@@ -1,2 +1,5 @@
+pub mod Positions
 pub mod LineCuts
 pub mod CheckLaws
+pub mod WriterLaws
+pub mod HistoryLaws

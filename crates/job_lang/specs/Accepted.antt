@@ -1,9 +1,10 @@
 -- What the commands that were accepted so far keep.
-use Rattle.std.specs.Prelude.{◌≡◌, ℕ, []}
-use Rattle.tree_model.specs.Texts.{JobData}
-use Rattle.job_lang.specs.Checks.{IsJob, trees_behind}
+use Rattle.tree_model.specs.Jobs.{JobData}
+use Rattle.job_lang.specs.declared.history.History.{History}
+use Rattle.job_lang.specs.Checks.{IsJob}
+use Rattle.job_lang.specs.Recalls.{Recalls}
 
--- they are a job, and the count is that of its trees
-pub record IsCounted (job : JobData) (trees : ℕ) : Type 0 where
+-- they are a job, and the history is theirs
+pub record IsRecalled (job : JobData) (history : History) : Type 0 where
   pub is_job : IsJob job
-  pub count : trees ≡ trees_behind [] job.commands
+  pub recalls : Recalls job.commands history

@@ -1,10 +1,26 @@
 -- The plain data that a job of the code is.
+use Rattle.std.specs.Prelude.{List, [], ◌∷◌, ℕ}
 use Rattle.tree_model.specs.Commands.{Command}
-use Rattle.tree_model.specs.Commands.Command.{Project as ProjectCommand, Print as PrintCommand}
+use Rattle.tree_model.specs.Commands.Command.{Project as ProjectCommand, Refine as RefineCommand, Compress as CompressCommand, Reconstruct as ReconstructCommand, Add as AddCommand, Mul as MulCommand, Inner as InnerCommand, Print as PrintCommand, Fence as FenceCommand}
+use Rattle.tree_model.specs.Nodes.{Form}
+use Rattle.tree_model.specs.Nodes.Form.{Reconstructed as ReconstructedForm, Compressed as CompressedForm}
 use Rattle.job_lang.specs.declared.command.Command.{Command as CommandCode}
-use Rattle.job_lang.specs.declared.command.Command.TheVariants.{Project, Print}
+use Rattle.job_lang.specs.declared.command.Command.TheVariants.{Project, Refine, Compress, Reconstruct, Add, Mul, Inner, Print, Fence}
+use Rattle.job_lang.specs.declared.tree_form.TreeForm.{TreeForm}
+use Rattle.job_lang.specs.declared.tree_form.TreeForm.TheVariants.{Reconstructed, Compressed}
 use Rattle.haar_node.specs.Func.{function_of}
 
 abbrev pub data_of : CommandCode → Command
 data_of (Project name function level tolerance) = ProjectCommand name (record { function = function_of function; level = level; tolerance = tolerance })
+data_of (Refine name level) = RefineCommand name level
+data_of (Compress name) = CompressCommand name
+data_of (Reconstruct name) = ReconstructCommand name
+data_of (Add name left_factor left right_factor right) = AddCommand name left_factor left right_factor right
+data_of (Mul name left right) = MulCommand name left right
+data_of (Inner left right) = InnerCommand left right
 data_of (Print name) = PrintCommand name
+data_of Fence = FenceCommand
+
+abbrev pub form_of : TreeForm → Form
+form_of Reconstructed = ReconstructedForm
+form_of Compressed = CompressedForm

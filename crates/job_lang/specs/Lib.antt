@@ -5,8 +5,11 @@ pub mod Grammar
 pub mod Checks
 pub mod Reading
 pub mod Data
+pub mod Reads
 pub mod Slices
 pub mod Limits
 pub mod Code
+pub mod Writers
+pub mod Recalls
 pub mod Accepted
 pub mod Faults

@@ -2,7 +2,7 @@
 use Rattle.std.specs.Prelude.{ℕ, ◌+◌, List, [], ◌∷◌, ◌++◌, Option, Some, None, Result, Ok, Err, if◌then◌else◌}
 use Rattle.std.specs.Str.Lines.{lines}
 use Rattle.tree_model.specs.Commands.{Command}
-use Rattle.tree_model.specs.Texts.{JobData}
+use Rattle.tree_model.specs.Jobs.{JobData}
 use Rattle.job_lang.specs.declared.fault.JobFault.{JobFault}
 use Rattle.job_lang.specs.Lines.{words, is_passed_over}
 use Rattle.job_lang.specs.Grammar.{Words, ◌>>=◌, header_of, form_of, command_of_form}

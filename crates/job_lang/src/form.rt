@@ -1,13 +1,16 @@
 //! The forms of lines, read from their words.
-ghost use Rattle.std.specs.Prelude.{◌≡◌, ◌≤◌, IfSome};
+ghost use Rattle.std.specs.Prelude.{◌≡◌, ◌≤◌, IfOk, IfSome};
 ghost use Rattle.std.specs.Option.{option_map};
 ghost use Rattle.tree_model.specs.Functions.{max_depth};
 ghost use Rattle.job_lang.specs.Grammar.{header_of, project_of, print_of, form_of};
+ghost use Rattle.job_lang.specs.Limits.{limited_command, size_up_to};
 ghost use Rattle.job_lang.specs.Slices.{texts};
 
+use crate::command::Command;
 use crate::fields::{function_at, keyword, name_at, no_more, number_at, size_at};
 use crate::names::Name;
 use haar_node::Func;
+use std::alloc::{AllocError, Global};
 
 /// A line of a job as its words say it, with any numbers.
 #[derive(Clone, Copy)]
@@ -44,7 +47,21 @@ pub fn header_of(words: &[&[u8]]) -> Option<u8>
     }
 }
 
+const MAX_TOLERANCE: u64 = 1 << 25;
+
+// A number from 0 to a limit.
+fn size_up_to(limit: u64, number: i64) -> Option<u64>
+    ensures { result ≡ size_up_to limit number }
+{
+    if number < 0 {
+        return None;
+    }
+    let size = number as u64;
+    if size <= limit { Some(size) } else { None }
+}
+
 impl<'a> Form<'a> {
+    ghost use Rattle.job_lang.specs.Data.{data_of};
     ghost use Rattle.job_lang.specs.Code.{form_data};
 
     /// `project NAME FUNC level N tol T`. None exactly where the words aren't that.
@@ -82,5 +99,40 @@ impl<'a> Form<'a> {
         ensures { option_map form_data result ≡ form_of (texts words.now) }
     {
         Form::project_of(words).or_else(|| Form::print_of(words))
+    }
+
+    /// The command of the form, with names of its own. None exactly where a number isn't within its limits at the depth.
+    pub fn to_command(&self, alloc: Global, depth: u8) -> Result<Option<Command>, AllocError>
+        ensures { IfOk result (λ o. option_map data_of o ≡ limited_command depth (form_data self.now)) }
+    {
+        match *self {
+            Form::Project {
+                name,
+                function,
+                level,
+                tolerance,
+            } => {
+                let Some(level) = size_up_to(u64::from(depth), level) else {
+                    return Ok(None);
+                };
+                let Some(tolerance) = size_up_to(MAX_TOLERANCE, tolerance) else {
+                    return Ok(None);
+                };
+                if !function.fits(depth) {
+                    return Ok(None);
+                }
+                let name = name.to_text(alloc)?;
+                Ok(Some(Command::Project {
+                    name,
+                    function,
+                    level: level as u8,
+                    tolerance: tolerance as u32,
+                }))
+            }
+            Form::Print { name } => {
+                let name = name.to_text(alloc)?;
+                Ok(Some(Command::Print { name }))
+            }
+        }
     }
 }

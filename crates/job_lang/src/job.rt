@@ -1,8 +1,9 @@
-ghost use Rattle.std.specs.Prelude.{◌≡◌, map};
-ghost use Rattle.job_lang.specs.Checks.{IsJob};
+ghost use Rattle.std.specs.Prelude.{◌≡◌, ◌↔◌, [], IfSome, IsSome, map};
+ghost use Rattle.job_lang.specs.Checks.{IsJob, are_accepted};
 ghost use Rattle.job_lang.specs.Data.{data_of};
 
 use crate::command::Command;
+use crate::history::History;
 use std::marker::Model;
 
 /// A job: its depth, from 0 to 16, and its commands, each accepted behind those before it.
@@ -14,7 +15,7 @@ pub struct Job {
 
 impl Model for Job {
     ghost use Rattle.std.specs.Prelude.{map};
-    ghost use Rattle.tree_model.specs.Texts.{JobData};
+    ghost use Rattle.tree_model.specs.Jobs.{JobData};
     ghost use Rattle.job_lang.specs.Checks.{IsJob};
     ghost use Rattle.job_lang.specs.Data.{data_of};
 
@@ -25,13 +26,43 @@ impl Model for Job {
     ghost invariant = { λ j. IsJob (record { depth = j.depth; commands = map data_of j.commands.items }) };
 }
 
+const MAX_DEPTH: u8 = 16;
+
+// Whether each of the commands is accepted behind those before it.
+fn are_accepted(depth: u8, commands: &[Command]) -> bool
+    ensures { result ≡ are_accepted depth [] (map data_of commands.now) }
+{
+    let mut history = History::new();
+    for at in 0..commands.len() {
+        let before = &commands[..at];
+        let command = &commands[at];
+        if !history.is_accepted(depth, before, command) {
+            return false;
+        }
+        history.add(before, command);
+    }
+    true
+}
+
 impl Job {
-    /// A job of its parts.
+    /// A job of its parts, which are known to be one.
     pub fn new(depth: u8, commands: Vec<Command>) -> Job
         requires { IsJob (record { depth = depth; commands = map data_of commands.items }) }
         ensures { result ≡ record { depth = depth; commands = map data_of commands.items } }
     {
         Job { depth, commands }
+    }
+
+    /// A job of its parts. None exactly where they are no job: the depth is above 16, or a command isn't accepted behind
+    /// those before it. It takes no memory.
+    pub fn of_commands(depth: u8, commands: Vec<Command>) -> Option<Job>
+        ensures some { IsSome result ↔ IsJob (record { depth = depth; commands = map data_of commands.items }) }
+        ensures job { IfSome result (λ job. job ≡ record { depth = depth; commands = map data_of commands.items }) }
+    {
+        if depth > MAX_DEPTH || !are_accepted(depth, &commands) {
+            return None;
+        }
+        Some(Job::new(depth, commands))
     }
 
     /// The depth.

@@ -7,22 +7,27 @@
 
 mod accepted;
 mod command;
-mod command_ref;
 mod examples;
 mod fault;
 mod fields;
 mod form;
+mod history;
 mod job;
 mod lines;
 mod names;
 mod numbers;
 mod parse_error;
 mod reading;
+mod reads;
 #[cfg(test)]
 mod tests;
+mod tree_form;
+mod writers;
 
 pub use command::Command;
 pub use fault::JobFault;
 pub use job::Job;
 pub use parse_error::ParseError;
 pub use reading::parse;
+pub use reads::Reads;
+pub use tree_form::TreeForm;

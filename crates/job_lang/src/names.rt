@@ -32,8 +32,8 @@ fn has_name_bytes(word: &[u8]) -> bool
     word.iter().all(|byte| is_name_byte(*byte))
 }
 
-// Whether a word is a name.
-fn is_name(word: &[u8]) -> bool
+/// Whether a word is a name.
+pub fn is_name(word: &[u8]) -> bool
     ensures { result ≡ is_name word.now }
 {
     begins_name(word) && word.len() <= MAX_NAME_LEN && has_name_bytes(word)

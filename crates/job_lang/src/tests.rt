@@ -1,8 +1,10 @@
 //! What `parse` answers, at texts whose readings were worked out by hand.
 use super::*;
+use haar_node::Func;
 use std::alloc::{AllocError, Global};
 use std::process::Abort;
 use std::test::Fail;
+use tree_key::{OutOfMemory, Text};
 
 // The depth and the number of commands, or why there is no job.
 fn outcome(alloc: Global, text: &[u8]) -> Result<(u8, usize), ParseError> {
@@ -117,7 +119,7 @@ fn keeps_what_a_command_says(rt: HostRuntime) -> Result<(), Fail> {
         return Err(Fail::from("not one project"));
     };
     assert_eq!(rt; name.bytes(), b"a_1".as_slice());
-    assert_eq!(rt; *function, haar_node::Func::Ramp(-7, 2));
+    assert_eq!(rt; *function, Func::Ramp(-7, 2));
     assert_eq!(rt; (*level, *tolerance), (1, 9));
     Ok(())
 }
@@ -131,5 +133,74 @@ fn prints_faults(rt: HostRuntime) -> Result<(), Fail> {
     );
     let memory = ParseError::OutOfMemory;
     assert_eq!(rt; memory.to_string(rt.alloc())?.as_str(), "out of memory");
+    Ok(())
+}
+
+fn text(alloc: Global, bytes: &[u8]) -> Result<Text, OutOfMemory> {
+    let mut text = Text::new(alloc);
+    text.add(bytes)?;
+    Ok(text)
+}
+
+fn project(alloc: Global, name: &[u8]) -> Result<Command, OutOfMemory> {
+    Ok(Command::Project {
+        name: text(alloc, name)?,
+        function: Func::Step(1, 7, -7),
+        level: 2,
+        tolerance: 33_554_432,
+    })
+}
+
+fn add(alloc: Global, factor: i64) -> Result<Command, OutOfMemory> {
+    Ok(Command::Add {
+        name: text(alloc, b"f")?,
+        left_factor: factor,
+        left: text(alloc, b"f")?,
+        right_factor: -factor,
+        right: text(alloc, b"f")?,
+    })
+}
+
+fn compress(alloc: Global, name: &[u8]) -> Result<Command, OutOfMemory> {
+    let name = text(alloc, name)?;
+    Ok(Command::Compress { name })
+}
+
+// Whether commands make a job at depth 2.
+fn is_job(commands: Vec<Command>) -> bool {
+    Job::of_commands(2, commands).is_some()
+}
+
+#[test]
+fn makes_jobs_of_commands(rt: HostRuntime) -> Result<(), Fail> {
+    let alloc = rt.alloc();
+    let commands = vec![in alloc;
+        project(alloc, b"f")?,
+        compress(alloc, b"f")?,
+        add(alloc, 1 << 20)?,
+    ]?;
+    assert!(rt; is_job(commands));
+    let too_large = vec![in alloc;
+        project(alloc, b"f")?,
+        compress(alloc, b"f")?,
+        add(alloc, (1 << 20) + 1)?,
+    ]?;
+    assert!(rt; !is_job(too_large));
+    let not_compressed = vec![in alloc; project(alloc, b"f")?, add(alloc, 1)?]?;
+    assert!(rt; !is_job(not_compressed));
+    let compressed_twice = vec![in alloc;
+        project(alloc, b"f")?,
+        compress(alloc, b"f")?,
+        compress(alloc, b"f")?,
+    ]?;
+    assert!(rt; !is_job(compressed_twice));
+    let unknown = vec![in alloc; project(alloc, b"f")?, compress(alloc, b"g")?]?;
+    assert!(rt; !is_job(unknown));
+    let no_name = vec![in alloc; project(alloc, b"F")?]?;
+    assert!(rt; !is_job(no_name));
+    let fence = vec![in alloc; Command::Fence]?;
+    assert!(rt; Job::of_commands(16, fence).is_some());
+    let too_deep = vec![in alloc; Command::Fence]?;
+    assert!(rt; Job::of_commands(17, too_deep).is_none());
     Ok(())
 }

@@ -1,10 +1,14 @@
+use Rattle.std.proofs.Common.{◌∷◌, []}
 use Rattle.std.proofs.lemmas.List.{map-append}
-use Rattle.job_lang.specs.Code.{command_data}
-use Rattle.job_lang.proofs.CheckLaws.{IsCounted-push}
+use Rattle.job_lang.specs.Data.{data_of}
+use Rattle.job_lang.proofs.CheckLaws.{IsJob-push}
 use Rattle.job_lang.proofs.accepted.Accepted.push.Goals as goal
 
 pub invariant_of-self-2 : goal.invariant_of-self-2
 invariant_of-self-2 c =
     let accepted = rw (← c.self.view_is) at c.requires in
-    rw (c.in_ok-push.ensures.items, map-append, c.in_ok-command.ensures, c.from.ensures, c.brings_tree-is_new.ensures, ← c.self.view_is)
-    (IsCounted-push _ _ (command_data c.args.command.now) c.self.invariant accepted)
+    rw (c.in_ok-push.ensures.items, map-append data_of c.self.inside.commands.items (c.args.command ∷ []))
+    (record {
+      is_job = IsJob-push _ (data_of c.args.command) c.self.invariant.is_job accepted;
+      recalls = rw c.deref.ensures.value at c.add.ensures;
+    })

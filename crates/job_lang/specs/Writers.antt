@@ -1,0 +1,26 @@
+-- The last writer of each tree, as places of a list of commands.
+use Rattle.std.specs.Prelude.{◌≡◌, ℕ, ◌<◌, Bool, List, [], ◌∷◌, length, get_or, All, Option, None, if◌then◌else◌}
+use Rattle.tree_model.specs.Commands.{Command, writes}
+use Rattle.tree_model.specs.Commands.Command.{Fence}
+use Rattle.tree_model.specs.Nodes.{Form}
+use Rattle.job_lang.specs.Checks.{written_form, form_behind, trees_behind}
+
+-- the command at a place; behind the last there is a fence, which writes nothing
+abbrev pub command_at : List Command → ℕ → Command
+command_at commands place = get_or commands place Fence
+
+-- the form in which the first of these places that writes a name writes it
+abbrev pub form_at : List Command → List ℕ → List ℕ → Option Form
+form_at commands [] name = None
+form_at commands (place ∷ places) name = if writes name (command_at commands place) then written_form (command_at commands place) else form_at commands places name
+
+-- the places with this one in place of the first that writes a name, or behind all where none does
+abbrev pub with_writer : List Command → List ℕ → List ℕ → ℕ → List ℕ
+with_writer commands [] name last = last ∷ []
+with_writer commands (place ∷ places) name last = if writes name (command_at commands place) then last ∷ places else place ∷ with_writer commands places name last
+
+-- there is one place for each tree that the commands write, and it is that of its last writer
+pub record AreLastWriters (commands : List Command) (places : List ℕ) : Type 0 where
+  pub within : All (λ place. place < length commands) places
+  pub count : length places ≡ trees_behind [] commands
+  pub forms : (name : List ℕ) → form_behind commands name ≡ form_at commands places name
