@@ -1,11 +1,11 @@
 -- Two trees that are added: their differences at a key, and the sums over its halves.
-use Rattle.std.proofs.Common.{◌≡◌, ℕ, length, ◌*◌, ◌^◌, ◌<◌, ◌≤◌, Bool, true, false, cond, ◌&&◌, ◌||◌, Option, Some, None, refl, sym, ◌∙◌, ap, subst, arith, inl, inr, ℤ, pos, ◌+ℤ◌, ◌-ℤ◌, ◌*ℤ◌, FitsSigned, w64}
+use Rattle.std.proofs.Common.{◌≡◌, ℕ, length, ◌*◌, ◌^◌, ◌<◌, ◌≤◌, Bool, true, false, cond, ◌&&◌, ◌||◌, Option, Some, None, refl, sym, ◌∙◌, ap, subst, arith, inl, inr, ℤ, pos, ◌+ℤ◌, ◌-ℤ◌, ◌*ℤ◌, FitsSigned, w64, to_z, of_z}
 use Rattle.std.specs.Prelude.{int_rem}
 use Rattle.std.specs.Int.RustNames.{unsigned_abs}
 use Rattle.std.proofs.lemmas.Int.{ints}
-use Rattle.std.proofs.lemmas.Bool.{cases_Bool, cases_lt, and_parts, or_cases, false≢true}
+use Rattle.std.proofs.lemmas.Bool.{cases_Bool, cases_lt, and_parts, or_left, or_cases, false≢true}
 use Rattle.std.proofs.lemmas.Option.{some_pair_parts}
-use Rattle.tree_key.specs.Keys.{Key, child, width}
+use Rattle.tree_key.specs.Keys.{Key, root, child, width}
 use Rattle.tree_model.specs.Functions.{max_value}
 use Rattle.tree_model.specs.Nodes.{max_number}
 use Rattle.tree_model.specs.Kept.{difference_at}
@@ -23,6 +23,8 @@ use Rattle.std.specs.BTreeMap.{BTreeMap}
 use Rattle.tree_model.proofs.Combined.{union-shape, weighted_sum-tree}
 use Rattle.plain_tree.specs.Numbers.{number_at, same_key, IsSound, KeepsDifferences}
 use Rattle.plain_tree.specs.Filling.{under}
+use Rattle.plain_tree.specs.InnerProducts.{IsCompressed}
+use Rattle.plain_tree.proofs.Reading.{passed}
 use Rattle.plain_tree.proofs.Under.{under-split, same-key}
 use Rattle.plain_tree.proofs.ShapeLemmas.{no-leaf-below, no-interior-under}
 
@@ -192,7 +194,7 @@ pub sum-is-tree : (a : ℤ) (f : Tree) (b : ℤ) (g : Tree) (left right : BTreeM
 sum-is-tree a f b g left right depth kept = weighted_sum-tree a f b g kept.first.sound.tree kept.second.sound.tree (kept.first_depth ∙ sym kept.second_depth)
 
 -- a key of the union that neither tree cuts is a leaf of the sum, and the only one at it and below it
-sum-over :
+pub sum-over :
     (a : ℤ) (f : Tree) (b : ℤ) (g : Tree) (left right : BTreeMap Key ℤ) (depth : ℕ) (k : Key) (l r : ℤ) →
     AreKeptAt f g left right depth k l r →
     box_sum (weighted_sum a f b g) k ≡ a *ℤ l +ℤ b *ℤ r
@@ -276,3 +278,18 @@ within-from cells z no_more = elim (cases_lt (cells * max_value) (unsigned_abs z
 
 pub factor-fits : (a : ℤ) → unsigned_abs a ≤ 2 ^ 20 → FitsSigned w64 a
 factor-fits a small = omega (arith, ints)
+
+-- two compressed trees, at the root
+pub roots-kept :
+    (f g : Tree) (left right : BTreeMap Key ℤ) (depth : ℕ) (l r : ℤ) →
+    IsCompressed f depth l left →
+    IsCompressed g depth r right →
+    FitsSigned w64 l →
+    FitsSigned w64 r →
+    AreKeptAt f g left right depth root (to_z w64 (of_z w64 l)) (to_z w64 (of_z w64 r))
+roots-kept f g left right depth l r first second l_fits r_fits = record {
+  kept = record { first = first.keeps; second = second.keeps; first_depth = first.deep; second_depth = second.deep };
+  key = or_left (f.shape root) (g.shape root) first.keeps.sound.tree.shape.root;
+  first_sum = passed l l_fits ∙ first.all;
+  second_sum = passed r r_fits ∙ second.all;
+}

@@ -6,3 +6,5 @@ pub mod AddingLemmas
 pub mod Results
 pub mod ReadingDifferences
 pub mod ReadingInnerProducts
+pub mod Names
+pub mod Roots

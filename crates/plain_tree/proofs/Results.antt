@@ -1,6 +1,6 @@
 -- Facts that hold where a call succeeds.
-use Rattle.std.proofs.Common.{Result, OnOk}
-use Rattle.std.specs.Prelude.{Ok, Err}
+use Rattle.std.proofs.Common.{◌≡◌, Result, OnOk, sym, ◌∙◌, ap}
+use Rattle.std.specs.Prelude.{Ok, Err, IsErrAnd}
 
 -- a fact that follows from what holds on success
 pub OnOk-map : {T E : Type 0} (r : Result T E) (P Q : Type 0) → (P → Q) → OnOk r P → OnOk r Q
@@ -11,3 +11,8 @@ OnOk-map (Err e) P Q f p = p
 pub OnOk-from : {T E : Type 0} (r : Result T E) (P : Type 0) → P → OnOk r P
 OnOk-from (Ok x) P p = p
 OnOk-from (Err e) P p = tt
+
+-- the error that a `?` hands on is the one that the call answered
+pub handed-on : {T S E : Type 0} (r : Result T E) (called : Result S E) (e x : E) → IsErrAnd r (λ y. y ≡ x) → called ≡ Err x → r ≡ Err e → called ≡ Err e
+handed-on (Ok v) called e x same was is = absurd same
+handed-on (Err y) called e x same was is = let equal : y ≡ e = cc in was ∙ ap Err (sym same ∙ equal)

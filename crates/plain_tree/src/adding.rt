@@ -17,6 +17,7 @@ use haar_node::{Over, combine_add, split};
 use tree_key::Key;
 
 /// Two compressed trees of a depth, by the differences of their keys, each to be taken so many times.
+#[derive(Clone, Copy)]
 pub struct Addends<'a> {
     pub left: &'a Numbers,
     pub right: &'a Numbers,
@@ -114,13 +115,13 @@ impl Addends<'_> {
         )
     }
 
-    // The difference of the sum at a key, from those of both trees.
-    fn difference_of(&self, differences: Pair) -> i64
-        requires left { unsigned_abs differences.left ≤ max_number }
-        requires right { unsigned_abs differences.right ≤ max_number }
-        ensures { result ≡ self.now.left_factor *ℤ differences.left +ℤ self.now.right_factor *ℤ differences.right }
+    /// What the sum has where both trees have these numbers: sums over a box, or differences at a key.
+    pub fn weighted(&self, numbers: Pair) -> i64
+        requires left { unsigned_abs numbers.left ≤ max_number }
+        requires right { unsigned_abs numbers.right ≤ max_number }
+        ensures { result ≡ self.now.left_factor *ℤ numbers.left +ℤ self.now.right_factor *ℤ numbers.right }
     {
-        self.left_factor * differences.left + self.right_factor * differences.right
+        self.left_factor * numbers.left + self.right_factor * numbers.right
     }
 
     /// Sets the differences of the sum at a key and below it, from the sums of both trees over its box.
@@ -154,7 +155,7 @@ impl Addends<'_> {
                 let (left, right) = self.halves(key, sums, here);
                 self.add_below(key.child(false), left, differences)?;
                 self.add_below(key.child(true), right, differences)?;
-                set_number(differences, key, self.difference_of(here))?;
+                set_number(differences, key, self.weighted(here))?;
                 Ok(())
             }
         }

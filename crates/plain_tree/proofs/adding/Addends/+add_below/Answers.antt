@@ -30,14 +30,14 @@ add_below-requires-in-Some t c =
     let two = sym (c.in-Some.ensures f g c.requires.2.kept) in
     (search rules, (f, g, rw c.child-in-Some.ensures (c.halves.ensures.right f g c.requires.2 two)))
 
-pub difference_of-requires-clause-left : goal.difference_of-requires-clause-left
-difference_of-requires-clause-left t c =
+pub weighted-requires-clause-left : goal.weighted-requires-clause-left
+weighted-requires-clause-left t c =
     let two = sym (c.in-Some.ensures c.requires.0 c.requires.1 c.requires.2.kept) in
     let cut = cut-at c.requires.0 c.requires.1 c.args.self.now.left.now c.args.self.now.right.now c.args.self.now.depth c.args.key c.in-Some.here.left c.in-Some.here.right c.requires.2.kept two in
     (can-split c.requires.0 c.args.key c.args.sums.left c.in-Some.here.left c.requires.2.kept.first.sound cut.first_above c.requires.2.first_sum cut.first).apart
 
-pub difference_of-requires-clause-right : goal.difference_of-requires-clause-right
-difference_of-requires-clause-right t c =
+pub weighted-requires-clause-right : goal.weighted-requires-clause-right
+weighted-requires-clause-right t c =
     let two = sym (c.in-Some.ensures c.requires.0 c.requires.1 c.requires.2.kept) in
     let cut = cut-at c.requires.0 c.requires.1 c.args.self.now.left.now c.args.self.now.right.now c.args.self.now.depth c.args.key c.in-Some.here.left c.in-Some.here.right c.requires.2.kept two in
     (can-split c.requires.1 c.args.key c.args.sums.right c.in-Some.here.right c.requires.2.kept.second.sound cut.second_above c.requires.2.second_sum cut.second).apart
@@ -61,8 +61,8 @@ returns-in_ok-set_number-in-Some-clause-differences t c = λ f g at.
     let first = c.in_ok-add_below-in-Some.ensures.differences f g (rw c.child.ensures (c.halves.ensures.left f g at two)) in
     let second = c.in_ok-add_below-in-Some-2.ensures.differences f g (rw c.child-in-Some.ensures (c.halves.ensures.right f g at two)) in
     let number = difference-of-sum a f b g c.args.self.now.left.now c.args.self.now.right.now c.args.self.now.depth c.args.key c.in-Some.here.left c.in-Some.here.right at.kept two in
-    fills-all c.args.key (difference_at (weighted_sum a f b g)) (to_z w64 (of_z w64 c.difference_of.result)) c.args.differences.now c.add_below.new.differences c.add_below-in-Some.new.differences c.set_number.new.numbers
-    (number ∙ ap Some (sym (passed c.difference_of.result (search rules) ∙ c.difference_of.ensures))) (rw c.child.ensures at first) (rw c.child-in-Some.ensures at second) c.in_ok-set_number-in-Some.ensures
+    fills-all c.args.key (difference_at (weighted_sum a f b g)) (to_z w64 (of_z w64 c.weighted.result)) c.args.differences.now c.add_below.new.differences c.add_below-in-Some.new.differences c.set_number.new.numbers
+    (number ∙ ap Some (sym (passed c.weighted.result (search rules) ∙ c.weighted.ensures))) (rw c.child.ensures at first) (rw c.child-in-Some.ensures at second) c.in_ok-set_number-in-Some.ensures
 
 pub returns-in_ok-set_number-in-Some-clause-within : goal.returns-in_ok-set_number-in-Some-clause-within
 returns-in_ok-set_number-in-Some-clause-within t c = λ f g at.

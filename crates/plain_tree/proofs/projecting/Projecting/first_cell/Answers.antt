@@ -1,7 +1,7 @@
 use Rattle.std.proofs.Common.{◌≡◌, ◌+◌, ◌-◌, ◌*◌, ◌^◌, ◌<◌, ◌≤◌, arith, subst}
 use Rattle.std.proofs.Math.Pow.{pow_mono}
 use Rattle.std.proofs.lemmas.Nat.{shl_below}
-use Rattle.world_cli.proofs.projecting.Projecting.first_cell.Goals as goal
+use Rattle.plain_tree.proofs.projecting.Projecting.first_cell.Goals as goal
 
 pub returns-clause-below : goal.returns-clause-below
 returns-clause-below c =

@@ -4,7 +4,7 @@ use Rattle.std.proofs.lemmas.Int.{fits_signed_mul, to_z-of_z}
 use Rattle.std.proofs.lemmas.Nat.{one_shl}
 use Rattle.std.proofs.Math.Pow.{pow_mono}
 use Rattle.tree_key.specs.Keys.{width}
-use Rattle.world_cli.proofs.projecting.Projecting.leaf_sum.Goals as goal
+use Rattle.plain_tree.proofs.projecting.Projecting.leaf_sum.Goals as goal
 
 pub returns : goal.returns
 returns c =

@@ -2,8 +2,8 @@ use Rattle.std.proofs.Common.{◌≡◌, ◌++◌, map, take}
 use Rattle.std.specs.List.{flat_map}
 use Rattle.tree_model.specs.Project.{projected}
 use Rattle.tree_model.specs.Rows.{halves, whole_keys, with_sum, leaf_sums_above}
-use Rattle.world_cli.specs.Projecting.{projection_of}
-use Rattle.world_cli.proofs.projecting.Projecting.next_row.Given as goal
+use Rattle.plain_tree.specs.Projecting.{projection_of}
+use Rattle.plain_tree.proofs.projecting.Projecting.next_row.Given as goal
 
 abbrev pub invariant-loop-key : goal.invariant-loop-key
 invariant-loop-key l =

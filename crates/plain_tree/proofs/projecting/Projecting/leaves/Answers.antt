@@ -2,8 +2,8 @@ use Rattle.std.proofs.Common.{◌≡◌, ◌+◌, ◌∷◌, [], ◌∙◌, sym,
 use Rattle.tree_model.specs.Project.{projected}
 use Rattle.tree_model.specs.Rows.{leaf_sums_above}
 use Rattle.tree_model.proofs.Projected.{rows-follow, leaves-follow}
-use Rattle.world_cli.specs.Projecting.{projection_of}
-use Rattle.world_cli.proofs.projecting.Projecting.leaves.Goals as goal
+use Rattle.plain_tree.specs.Projecting.{projection_of}
+use Rattle.plain_tree.proofs.projecting.Projecting.leaves.Goals as goal
 
 pub loop-level-init : goal.loop-level-init
 loop-level-init c =

@@ -1,8 +1,8 @@
 use Rattle.std.proofs.Common.{◌≡◌}
 use Rattle.tree_model.specs.Project.{projected}
 use Rattle.tree_model.specs.Rows.{row, leaf_sums_above}
-use Rattle.world_cli.specs.Projecting.{projection_of}
-use Rattle.world_cli.proofs.projecting.Projecting.leaves.Given as goal
+use Rattle.plain_tree.specs.Projecting.{projection_of}
+use Rattle.plain_tree.proofs.projecting.Projecting.leaves.Given as goal
 
 abbrev pub invariant-loop-level : goal.invariant-loop-level
 invariant-loop-level l =

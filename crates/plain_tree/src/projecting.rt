@@ -7,7 +7,7 @@ ghost use Rattle.tree_model.specs.Functions.{fits, value_at, max_value};
 ghost use Rattle.tree_model.specs.Project.{is_split, differs, projected};
 ghost use Rattle.tree_model.specs.Rows.{halves, whole_keys, with_sum, row as row_of, leaf_sums, leaf_sums_above};
 ghost use Rattle.haar_node.specs.Func.{function_of};
-ghost use Rattle.world_cli.specs.Projecting.{projection_of};
+ghost use Rattle.plain_tree.specs.Projecting.{projection_of};
 
 use haar_node::Func;
 use std::alloc::{AllocError, Global};

@@ -8,9 +8,9 @@ use Rattle.tree_model.specs.Trees.{box_sum}
 use Rattle.tree_model.proofs.Leaves.{box_sum-leaf}
 use Rattle.tree_model.proofs.Projected.{rows-follow, leaves-follow}
 use Rattle.tree_model.proofs.Steps.{leaf-put, leaf-kept, next-kept, next-grown, row-at, row-leaf}
-use Rattle.world_cli.specs.Projecting.{projection_of}
-use Rattle.world_cli.proofs.projecting.Projecting.next_row.Goals as goal
-use Rattle.world_cli.proofs.projecting.Projecting.next_row.Goals.{then-is_split+in_ok-push+in_ok-push-2, else-is_split+in_ok-insert}
+use Rattle.plain_tree.specs.Projecting.{projection_of}
+use Rattle.plain_tree.proofs.projecting.Projecting.next_row.Goals as goal
+use Rattle.plain_tree.proofs.projecting.Projecting.next_row.Goals.{then-is_split+in_ok-push+in_ok-push-2, else-is_split+in_ok-insert}
 
 pub leaf_sum-requires : goal.leaf_sum-requires
 leaf_sum-requires c =

@@ -2,7 +2,7 @@
 ghost use Rattle.std.specs.Prelude.{◌≡◌, ◌++◌, OnOk};
 ghost use Rattle.std.specs.Prelude.{decimal};
 ghost use Rattle.std.specs.Fmt.{signed_decimal};
-ghost use Rattle.world_cli.specs.Lines.{sum_line, sums_text};
+ghost use Rattle.plain_tree.specs.Lines.{sum_line, sums_text};
 
 use crate::projecting::Leaves;
 use itoa::Buffer;
