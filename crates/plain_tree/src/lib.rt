@@ -4,3 +4,5 @@
 mod command_error;
 mod compressing;
 mod numbers;
+mod refining;
+mod whole_sums;
