@@ -5,3 +5,5 @@ pub mod Reading
 pub mod WholeSumLemmas
 pub mod LeafFilling
 pub mod RefiningLemmas
+pub mod LeafProductLemmas
+pub mod MultiplyingLemmas

@@ -1,5 +1,5 @@
 -- Keys of a tree with all keys down to a level.
-use Rattle.std.proofs.Common.{◌≡◌, ℕ, ◌<◌, ◌≤◌, Bool, true, false, cond, Option, None, sym, ◌∙◌, ap, arith, ℤ, to_z, of_z, w64, FitsSigned, Some}
+use Rattle.std.proofs.Common.{◌≡◌, ℕ, ◌≤◌, Bool, true, false, cond, Option, None, sym, ◌∙◌, ap, arith, ℤ, to_z, of_z, w64, FitsSigned, Some}
 use Rattle.std.specs.BTreeMap.{BTreeMap}
 use Rattle.tree_key.specs.Keys.{Key, child}
 use Rattle.tree_model.specs.Kept.{whole_sum, leaf_sum_at}
@@ -13,16 +13,11 @@ use Rattle.plain_tree.specs.Filling.{Fills}
 use Rattle.plain_tree.specs.WholeSums.{half_sum, IsKeyToRefine}
 use Rattle.plain_tree.proofs.LeafFilling.{fills-leaf}
 use Rattle.plain_tree.proofs.Reading.{passed}
-use Rattle.plain_tree.proofs.WholeSumLemmas.{AnswersWholeSum, half-from-above, whole-with, cut-where-none, as-left}
+use Rattle.plain_tree.proofs.WholeSumLemmas.{AnswersWholeSum, IsCut, half-from-above, whole-with, cut-where-none, as-left}
 
 -- what is answered on the way
 abbrev AnswersFromLevel : ℕ → Key → Option ℤ → Option ℤ → Type 0
 AnswersFromLevel level key whole answer = (t : Tree) → level ≤ t.depth → is_key_of t.depth key ≡ true → whole ≡ whole_sum t key → answer ≡ whole_sum (refined level t) key
-
--- a key whose box the tree cuts: it lies above the depth, and has children
-pub record IsCut (t : Tree) (key : Key) : Type 0 where
-  pub left : t.shape (child key false) ≡ true
-  pub above : key.level < t.depth
 
 refined-shape : (level : ℕ) (t : Tree) (leaves : BTreeMap Key ℤ) (key : Key) (above : Option ℤ) → IsKeyToRefine t leaves level key above → IsShape t.depth (refined level t).shape
 refined-shape level t leaves key above is = (refined-tree level t is.keeps.sound.tree).shape

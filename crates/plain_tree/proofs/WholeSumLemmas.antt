@@ -89,3 +89,8 @@ cut-tests false sum is = absurd (none-some sum is)
 -- and where there is none the tree cuts the box
 pub cut-where-none : (t : Tree) (k : Key) → None ≡ whole_sum t k → t.shape (child k false) ≡ true
 cut-where-none t k is = cut-tests (t.shape (child k false)) (box_sum t k) is
+
+-- a key whose box the tree cuts: it lies above the depth, and has children
+pub record IsCut (t : Tree) (key : Key) : Type 0 where
+  pub left : t.shape (child key false) ≡ true
+  pub above : key.level < t.depth

@@ -3,6 +3,7 @@
 
 mod command_error;
 mod compressing;
+mod multiplying;
 mod numbers;
 mod refining;
 mod whole_sums;
