@@ -8,3 +8,8 @@ pub mod ReadingDifferences
 pub mod ReadingInnerProducts
 pub mod Names
 pub mod Roots
+pub mod WholeSumLemmas
+pub mod LeafFilling
+pub mod RefiningLemmas
+pub mod LeafProductLemmas
+pub mod MultiplyingLemmas

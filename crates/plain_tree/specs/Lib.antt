@@ -6,3 +6,5 @@ pub mod Projecting
 pub mod Lines
 pub mod Kept
 pub mod Trees
+pub mod WholeSums
+pub mod Multiplied
