@@ -18,7 +18,9 @@ use Rattle.tree_model.proofs.CombinedSums.{sums-linear}
 use Rattle.tree_model.proofs.LeafSums.{overflow-leaves}
 use Rattle.tree_model.proofs.BelowLeaves.{key-parts}
 use Rattle.tree_model.proofs.KeptLaws.{whole-boxes-are-even}
-use Rattle.plain_tree.specs.Adding.{AreKept, AreKeptAt, LeavesAreWithin, two_differences}
+use Rattle.plain_tree.specs.Adding.{AreKept, AreKeptAt, two_differences}
+use Rattle.plain_tree.specs.LeafValues.{LeavesHaveValues}
+use Rattle.plain_tree.proofs.LeafValueLemmas.{leaf-has-values}
 use Rattle.std.specs.BTreeMap.{BTreeMap}
 use Rattle.tree_model.proofs.Combined.{union-shape, weighted_sum-tree}
 use Rattle.plain_tree.specs.Numbers.{number_at, same_key, IsSound, KeepsDifferences}
@@ -148,37 +150,6 @@ pub uncut-at : (f g : Tree) (left right : BTreeMap Key ℤ) (depth : ℕ) (k : K
 uncut-at f g left right depth k kept is =
     sym (interior-is f.depth (union f.shape g.shape) k (union-is-shape f g left right depth kept)) ∙ no-differences-here (is_interior (union f.shape g.shape) k) (difference f k, difference g k) is
 
--- the sums over the halves of a box, from its sum and its difference
-sum-of-halves : (a b l : ℤ) → pos 2 *ℤ l ≡ (a +ℤ b) +ℤ (a -ℤ b) → l ≡ a
-sum-of-halves a b l is = omega (arith, ints)
-
-difference-of-halves : (a b r : ℤ) → pos 2 *ℤ r ≡ (a +ℤ b) -ℤ (a -ℤ b) → r ≡ b
-difference-of-halves a b r is = omega (arith, ints)
-
-pub left-half : (t : Tree) (k : Key) (s d l : ℤ) → k.level < t.depth → s ≡ box_sum t k → d ≡ difference t k → pos 2 *ℤ l ≡ s +ℤ d → l ≡ box_sum t (child k false)
-left-half t k s d l above sum apart is =
-    sum-of-halves (box_sum t (child k false)) (box_sum t (child k true)) l (is ∙ ap (λ n. n +ℤ d) (sum ∙ box_sum-children t k above) ∙ ap (λ n. box_sum t (child k false) +ℤ box_sum t (child k true) +ℤ n) apart)
-
-pub right-half : (t : Tree) (k : Key) (s d r : ℤ) → k.level < t.depth → s ≡ box_sum t k → d ≡ difference t k → pos 2 *ℤ r ≡ s -ℤ d → r ≡ box_sum t (child k true)
-right-half t k s d r above sum apart is =
-    difference-of-halves (box_sum t (child k false)) (box_sum t (child k true)) r (is ∙ ap (λ n. n -ℤ d) (sum ∙ box_sum-children t k above) ∙ ap (λ n. (box_sum t (child k false) +ℤ box_sum t (child k true)) -ℤ n) apart)
-
--- the numbers of a box can be split into those of its halves
-pub record CanSplit (s d : ℤ) : Type 0 where
-  pub sum : unsigned_abs s ≤ max_number
-  pub apart : unsigned_abs d ≤ max_number
-  pub even : int_rem (s +ℤ d) (pos 2) ≡ pos 0
-
-pub can-split : (t : Tree) (k : Key) (s d : ℤ) → IsSound t → k.level < t.depth → s ≡ box_sum t k → d ≡ difference t k → CanSplit s d
-can-split t k s d sound above sum apart =
-    let fit = sums_fit t sound.values sound.depth in
-    let small = fit.sums k in
-    record {
-      sum = rw sum (omega arith);
-      apart = rw apart (fit.differences k);
-      even = rw (sum, apart) (fit.even k above);
-    }
-
 -- the sum of two trees
 lengths-agree : (f g : Tree) (left right : BTreeMap Key ℤ) (depth : ℕ) → AreKept f g left right depth → length f.cells ≡ length g.cells
 lengths-agree f g left right depth kept =
@@ -200,21 +171,21 @@ pub sum-over :
     box_sum (weighted_sum a f b g) k ≡ a *ℤ l +ℤ b *ℤ r
 sum-over a f b g left right depth k l r at = sum-at a f b g left right depth k at.kept ∙ ap (λ n. a *ℤ n +ℤ b *ℤ box_sum g k) (sym at.first_sum) ∙ ap (λ n. a *ℤ l +ℤ b *ℤ n) (sym at.second_sum)
 
+uncut-is-leaf :
+    (f g : Tree) (left right : BTreeMap Key ℤ) (depth : ℕ) (k : Key) (l r : ℤ) →
+    AreKeptAt f g left right depth k l r →
+    two_differences f g k ≡ None →
+    is_leaf (union f.shape g.shape) k ≡ true
+uncut-is-leaf f g left right depth k l r at none = rw (at.key, uncut-at f g left right depth k at.kept none) refl
+
 pub leaf-within :
     (a : ℤ) (f : Tree) (b : ℤ) (g : Tree) (left right : BTreeMap Key ℤ) (depth : ℕ) (k : Key) (l r : ℤ) →
     AreKeptAt f g left right depth k l r →
     two_differences f g k ≡ None →
     unsigned_abs (a *ℤ l +ℤ b *ℤ r) ≤ width depth k * max_value →
-    LeavesAreWithin k (weighted_sum a f b g)
-leaf-within a f b g left right depth k l r at none within =
-    let t = weighted_sum a f b g in
-    let here : unsigned_abs (box_sum t k) ≤ width f.depth k * max_value = rw (sum-over a f b g left right depth k l r at, at.kept.first_depth) within in
-    record {
-      at = λ other inside leaf. elim (cases_Bool (same_key k other)) [
-        | inl same ↦ subst (λ (c : Key). unsigned_abs (box_sum t c) ≤ width f.depth c * max_value) (same-key k other same) here
-        | inr apart ↦ absurd (false≢true (sym (no-leaf-below f.depth (union f.shape g.shape) k other (union-is-shape f g left right depth at.kept) (uncut-at f g left right depth k at.kept none) inside apart) ∙ leaf))
-      ];
-    }
+    LeavesHaveValues (weighted_sum a f b g) k
+leaf-within a f b g left right depth k l r at none small =
+    leaf-has-values (weighted_sum a f b g) k (sum-is-tree a f b g left right depth at.kept) (uncut-is-leaf f g left right depth k l r at none) (rw (sum-over a f b g left right depth k l r at, at.kept.first_depth) small)
 
 pub leaf-over :
     (a : ℤ) (f : Tree) (b : ℤ) (g : Tree) (left right : BTreeMap Key ℤ) (depth : ℕ) (k : Key) (l r : ℤ) →
@@ -224,32 +195,15 @@ pub leaf-over :
     overflows (weighted_sum a f b g) ≡ true
 leaf-over a f b g left right depth k l r at none over =
     let t = weighted_sum a f b g in
-    let leaf : is_leaf (union f.shape g.shape) k ≡ true = rw (at.key, uncut-at f g left right depth k at.kept none) refl in
+    let leaf = uncut-is-leaf f g left right depth k l r at none in
     let much : width f.depth k * max_value < unsigned_abs (box_sum t k) = rw (sum-over a f b g left right depth k l r at, at.kept.first_depth) over in
     (overflow-leaves t (sum-is-tree a f b g left right depth at.kept)).1 (k, record { leaf = leaf; over = much })
 
--- where the leaves under both halves are within, so are those under the key
-pub halves-within : (top : Key) (t : Tree) → is_leaf t.shape top ≡ false → LeavesAreWithin (child top false) t → LeavesAreWithin (child top true) t → LeavesAreWithin top t
-halves-within top t none left right = record {
-  at = λ k inside leaf. elim (or_cases (same_key top k) (under (child top false) k || under (child top true) k) (sym (under-split top k) ∙ inside)) [
-    | inl same ↦ absurd (false≢true (sym none ∙ ap (is_leaf t.shape) (same-key top k same) ∙ leaf))
-    | inr below ↦ elim (or_cases (under (child top false) k) (under (child top true) k) below) [
-      | inl first ↦ left.at k first leaf
-      | inr second ↦ right.at k second leaf
-    ]
-  ];
-}
+pub small-difference : (t : Tree) (k : Key) (d : ℤ) → IsSound t → d ≡ difference t k → unsigned_abs d ≤ max_number
+small-difference t k d sound apart = rw apart ((sums_fit t sound.values sound.depth).differences k)
 
 pub small-sum : (t : Tree) (k : Key) (s : ℤ) → IsSound t → s ≡ box_sum t k → unsigned_abs s ≤ max_number
 small-sum t k s sound sum = let small = (sums_fit t sound.values sound.depth).sums k in rw sum (omega arith)
-
--- a key of the union that is cut is no leaf
-pub cut-is-no-leaf : (f g : Tree) (k : Key) (l r : ℤ) → AreCutAt f g k l r → is_leaf (union f.shape g.shape) k ≡ false
-cut-is-no-leaf f g k l r cut = rw cut.left (and-false (union f.shape g.shape k))
-  where
-    and-false : (b : Bool) → (b && false) ≡ false
-    and-false true = refl
-    and-false false = refl
 
 -- at a cut key the sum has a difference
 pub difference-of-sum :

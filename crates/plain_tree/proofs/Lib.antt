@@ -13,3 +13,4 @@ pub mod LeafFilling
 pub mod RefiningLemmas
 pub mod LeafProductLemmas
 pub mod MultiplyingLemmas
+pub mod LeafValueLemmas

@@ -16,7 +16,7 @@ use Rattle.tree_model.proofs.BelowLeaves.{key-parts}
 use Rattle.tree_model.proofs.Combined.{product-tree, leaf-is}
 use Rattle.plain_tree.specs.Numbers.{number_at, same_key}
 use Rattle.plain_tree.specs.Filling.{under, Fills}
-use Rattle.plain_tree.specs.Multiplied.{IsKeyToMultiply, IsLeafToMultiply, LeavesHaveValues}
+use Rattle.plain_tree.specs.Multiplied.{IsKeyToMultiply, IsLeafToMultiply}
 use Rattle.plain_tree.specs.WholeSums.{half_sum}
 use Rattle.plain_tree.proofs.LeafFilling.{fills-leaf}
 use Rattle.plain_tree.proofs.Reading.{passed}
@@ -125,26 +125,3 @@ pub product-leaf-set :
 product-leaf-set f g key sum old new tree leaf fits is set =
     let parts = leaf-is (union f.shape g.shape) key leaf in
     fills-leaf (product f g) key sum old new tree.shape parts.inside (record { uncut = parts.whole; sum = is }) (rw (passed sum fits) at set)
-
--- a leaf is the only one at its key and below it
-pub leaf-has-values : (t : Tree) (key : Key) → IsTree t → is_leaf t.shape key ≡ true → unsigned_abs (box_sum t key) ≤ width t.depth key * max_value → LeavesHaveValues t key
-leaf-has-values t key tree leaf small = record {
-  at = λ k inside is_one. elim (cases_Bool (same_key key k)) [
-    | inl same ↦ subst (λ (other : Key). unsigned_abs (box_sum t other) ≤ width t.depth other * max_value) (same-key key k same) small
-    | inr apart ↦ absurd (let none = no-leaf-below t.depth t.shape key k tree.shape (leaf-is t.shape key leaf).whole inside apart in cc)
-  ];
-}
-
--- leaves below a key with children lie at or below one of these
-pub halves-have-values : (t : Tree) (key : Key) → t.shape (child key false) ≡ true → LeavesHaveValues t (child key false) → LeavesHaveValues t (child key true) → LeavesHaveValues t key
-halves-have-values t key cut left right = record {
-  at = λ k inside is_one. elim (or_cases (same_key key k) (under (child key false) k || under (child key true) k) (sym (under-split key k) ∙ inside)) [
-    | inl same ↦
-        let leaf : is_leaf t.shape key ≡ true = subst (λ (other : Key). is_leaf t.shape other ≡ true) (sym (same-key key k same)) is_one in
-        absurd (let whole = (leaf-is t.shape key leaf).whole in cc)
-    | inr below ↦ elim (or_cases (under (child key false) k) (under (child key true) k) below) [
-      | inl first ↦ left.at k first is_one
-      | inr second ↦ right.at k second is_one
-    ]
-  ];
-}

@@ -16,7 +16,7 @@ use Rattle.tree_model.specs.Trees.{Tree, IsTree, HasValues, box_sum}
 use Rattle.tree_model.proofs.BelowLeaves.{key-parts}
 use Rattle.tree_model.proofs.KeptLaws.{leaves-at-keys, leaves-within, projections-have-values}
 use Rattle.tree_model.proofs.Projected.{projected-tree}
-use Rattle.plain_tree.specs.Adding.{LeavesAreWithin}
+use Rattle.plain_tree.specs.LeafValues.{LeavesHaveValues}
 use Rattle.plain_tree.specs.Filling.{under, over, within, Fills}
 use Rattle.plain_tree.specs.Kept.{IsReconstructed}
 use Rattle.plain_tree.specs.Numbers.{number_at, IsSound, KeepsLeaves}
@@ -63,7 +63,7 @@ leaf-inside : (shape : Key → Bool) (k : Key) → is_leaf shape k ≡ true → 
 leaf-inside shape k leaf = elim (cases_Bool (shape k)) [ inl inside ↦ inside | inr outside ↦ absurd (false≢true (rw outside at leaf)) ]
 
 -- where the leaves from the root on are within their limits, the tree has values, and doesn't overflow
-pub values-from-leaves : (t : Tree) → IsTree t → LeavesAreWithin root t → HasValues t × (overflows t ≡ false)
+pub values-from-leaves : (t : Tree) → IsTree t → LeavesHaveValues t root → HasValues t × (overflows t ≡ false)
 values-from-leaves t tree within = leaves-within t tree (λ k leaf. within.at k (shape-under-root t.depth t.shape k tree.shape (leaf-inside t.shape k leaf)) leaf)
 
 -- a projection that is kept by its leaves in key order

@@ -1,18 +1,11 @@
 -- Two trees that are added, box by box.
-use Rattle.std.specs.Prelude.{◌≡◌, ℕ, ◌*◌, ◌≤◌, true, ℤ, Option, Some, None, if◌then◌else◌}
+use Rattle.std.specs.Prelude.{◌≡◌, ℕ, true, ℤ, Option, Some, None, if◌then◌else◌}
 use Rattle.std.specs.BTreeMap.{BTreeMap}
-use Rattle.std.specs.Int.RustNames.{unsigned_abs}
-use Rattle.tree_key.specs.Keys.{Key, width}
-use Rattle.tree_model.specs.Functions.{max_value}
+use Rattle.tree_key.specs.Keys.{Key}
 use Rattle.tree_model.specs.Operations.{union}
-use Rattle.tree_model.specs.Shapes.{is_leaf, is_interior}
+use Rattle.tree_model.specs.Shapes.{is_interior}
 use Rattle.tree_model.specs.Trees.{Tree, box_sum, difference}
 use Rattle.plain_tree.specs.Numbers.{KeepsDifferences}
-use Rattle.plain_tree.specs.Filling.{under}
-
--- at the top key and below it, no leaf's sum is above what so many cells may have, in absolute value
-pub record LeavesAreWithin (top : Key) (t : Tree) : Type 0 where
-  pub at : (k : Key) → under top k ≡ true → is_leaf t.shape k ≡ true → unsigned_abs (box_sum t k) ≤ width t.depth k * max_value
 
 -- both maps keep the differences of their trees, which have this depth
 pub record AreKept (f g : Tree) (left right : BTreeMap Key ℤ) (depth : ℕ) : Type 0 where

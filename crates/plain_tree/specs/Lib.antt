@@ -1,5 +1,6 @@
 pub mod Numbers
 pub mod Filling
+pub mod LeafValues
 pub mod Adding
 pub mod InnerProducts
 pub mod Projecting

@@ -1,14 +1,11 @@
 -- Two trees that are multiplied key by key.
-use Rattle.std.specs.Prelude.{◌≡◌, ℕ, ◌*◌, ◌≤◌, true, Option, ℤ}
+use Rattle.std.specs.Prelude.{◌≡◌, ℕ, true, Option, ℤ}
 use Rattle.std.specs.BTreeMap.{BTreeMap}
-use Rattle.std.specs.Int.RustNames.{unsigned_abs}
-use Rattle.tree_key.specs.Keys.{Key, width}
-use Rattle.tree_model.specs.Functions.{max_value}
+use Rattle.tree_key.specs.Keys.{Key}
 use Rattle.tree_model.specs.Operations.{union}
 use Rattle.tree_model.specs.Shapes.{is_leaf}
 use Rattle.tree_model.specs.Trees.{Tree, box_sum}
 use Rattle.plain_tree.specs.Numbers.{IsSound, KeepsLeaves}
-use Rattle.plain_tree.specs.Filling.{under}
 use Rattle.plain_tree.specs.WholeSums.{sum_from_above}
 
 -- a key of one of two trees that the maps keep, both of this depth, with the sums from above
@@ -30,7 +27,3 @@ pub record IsLeafToMultiply (f g : Tree) (depth : ℕ) (key : Key) (left right :
   pub leaf : is_leaf (union f.shape g.shape) key ≡ true
   pub sum_left : left ≡ box_sum f key
   pub sum_right : right ≡ box_sum g key
-
--- no leaf at the top key or below it has a sum above what its cells may have
-pub record LeavesHaveValues (t : Tree) (top : Key) : Type 0 where
-  pub at : (k : Key) → under top k ≡ true → is_leaf t.shape k ≡ true → unsigned_abs (box_sum t k) ≤ width t.depth k * max_value

@@ -8,8 +8,9 @@ ghost use Rattle.tree_model.specs.Functions.{max_depth};
 ghost use Rattle.tree_model.specs.Kept.{difference_at};
 ghost use Rattle.tree_model.specs.Operations.{weighted_sum, overflows};
 ghost use Rattle.tree_model.specs.Trees.{Tree};
-ghost use Rattle.plain_tree.specs.Adding.{AreKept, AreKeptAt, LeavesAreWithin, two_differences};
+ghost use Rattle.plain_tree.specs.Adding.{AreKept, AreKeptAt, two_differences};
 ghost use Rattle.plain_tree.specs.Filling.{Fills};
+ghost use Rattle.plain_tree.specs.LeafValues.{LeavesHaveValues};
 
 use crate::command_error::CommandError;
 use crate::numbers::{Numbers, number_at, set_number};
@@ -68,7 +69,7 @@ impl Addends<'_> {
         ensures within { OnOk result ((f g : Tree) →
             AreKeptAt f g self.now.left.now self.now.right.now self.now.depth key sums.left sums.right →
             two_differences f g key ≡ None →
-            LeavesAreWithin key (weighted_sum self.now.left_factor f self.now.right_factor g)) }
+            LeavesHaveValues (weighted_sum self.now.left_factor f self.now.right_factor g) key) }
         ensures over { result ≡ Err CommandError.Overflow → (f g : Tree) →
             AreKeptAt f g self.now.left.now self.now.right.now self.now.depth key sums.left sums.right →
             two_differences f g key ≡ None →
@@ -144,7 +145,7 @@ impl Addends<'_> {
             differences.old differences.new) }
         ensures within { OnOk result ((f g : Tree) →
             AreKeptAt f g self.now.left.now self.now.right.now self.now.depth key sums.left sums.right →
-            LeavesAreWithin key (weighted_sum self.now.left_factor f self.now.right_factor g)) }
+            LeavesHaveValues (weighted_sum self.now.left_factor f self.now.right_factor g) key) }
         ensures over { result ≡ Err CommandError.Overflow → (f g : Tree) →
             AreKeptAt f g self.now.left.now self.now.right.now self.now.depth key sums.left sums.right →
             overflows (weighted_sum self.now.left_factor f self.now.right_factor g) ≡ true }

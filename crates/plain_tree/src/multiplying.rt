@@ -7,7 +7,8 @@ ghost use Rattle.tree_model.specs.Kept.{leaf_sum_at};
 ghost use Rattle.tree_model.specs.Operations.{product, overflows};
 ghost use Rattle.tree_model.specs.Trees.{Tree, box_sum};
 ghost use Rattle.plain_tree.specs.Filling.{Fills};
-ghost use Rattle.plain_tree.specs.Multiplied.{IsKeyToMultiply, IsLeafToMultiply, LeavesHaveValues};
+ghost use Rattle.plain_tree.specs.LeafValues.{LeavesHaveValues};
+ghost use Rattle.plain_tree.specs.Multiplied.{IsKeyToMultiply, IsLeafToMultiply};
 
 use crate::command_error::CommandError;
 use crate::numbers::{Numbers, set_number};

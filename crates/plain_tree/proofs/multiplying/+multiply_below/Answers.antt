@@ -3,7 +3,8 @@ use Rattle.std.proofs.lemmas.Result.{on_ok_weaker}
 use Rattle.tree_model.specs.Operations.{product}
 use Rattle.plain_tree.proofs.LeafFilling.{fills-children}
 use Rattle.plain_tree.proofs.Reading.{passed}
-use Rattle.plain_tree.proofs.MultiplyingLemmas.{same-error, leaf-to-multiply, cut-in-product, child-to-multiply, product-of-two, product-leaf-set, leaf-has-values, halves-have-values}
+use Rattle.plain_tree.proofs.MultiplyingLemmas.{same-error, leaf-to-multiply, cut-in-product, child-to-multiply, product-of-two, product-leaf-set}
+use Rattle.plain_tree.proofs.LeafValueLemmas.{leaf-has-values, halves-have-values}
 use Rattle.plain_tree.proofs.multiplying.+multiply_below.Goals as goal
 
 pub multiply_leaf-requires : goal.multiply_leaf-requires

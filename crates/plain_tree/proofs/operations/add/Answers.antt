@@ -18,7 +18,7 @@ add_below-requires c =
 pub returns-in_err-add_below-clause-over : goal.returns-in_err-add_below-clause-over
 returns-in_err-add_below-clause-over c = λ is f g first second.
     let at = roots-kept f g c.args.left.now.differences c.args.right.now.differences c.args.depth c.args.left.now.sum c.args.right.now.sum first second (search rules) (search rules) in
-    c.add_below.ensures.over (handed-on c.from_residual.result c.add_below.result Overflow c.in_err-add_below.field-0.0 c.from_residual.ensures.1 c.in_err-add_below.was is) f g (rw c.root.ensures at)
+    rw (passed c.args.left_factor (search rules), passed c.args.right_factor (search rules)) at (c.add_below.ensures.over (handed-on c.from_residual.result c.add_below.result Overflow c.in_err-add_below.field-0.0 c.from_residual.ensures.1 c.in_err-add_below.was is) f g (rw c.root.ensures at))
 
 pub weighted-requires-clause-left : goal.weighted-requires-clause-left
 weighted-requires-clause-left c =
@@ -35,13 +35,13 @@ returns-clause-sum c = λ f g first second.
     let at = roots-kept f g c.args.left.now.differences c.args.right.now.differences c.args.depth c.args.left.now.sum c.args.right.now.sum first second (search rules) (search rules) in
     let t = weighted_sum c.args.left_factor f c.args.right_factor g in
     let tree = sum-is-tree c.args.left_factor f c.args.right_factor g c.args.left.now.differences c.args.right.now.differences c.args.depth at.kept in
-    let values = values-from-leaves t tree (rw c.root.ensures at (c.in_ok-add_below.ensures.within f g (rw c.root.ensures at))) in
+    let values = values-from-leaves t tree (rw (passed c.args.left_factor (search rules), passed c.args.right_factor (search rules), c.root.ensures) at (c.in_ok-add_below.ensures.within f g (rw c.root.ensures at))) in
     let all = sum-over c.args.left_factor f c.args.right_factor g c.args.left.now.differences c.args.right.now.differences c.args.depth root (to_z w64 (of_z w64 c.args.left.now.sum)) (to_z w64 (of_z w64 c.args.right.now.sum)) at in
     record {
       keeps = record {
         sound = record { tree = tree; values = values.0; depth = rw first.deep c.requires.depth };
-        at = filled (difference_at t) c.new-differences.result c.add_below.new.differences c.new-differences.ensures.empty (λ k outside. no-difference-outside t k tree outside) (rw c.root.ensures at (c.in_ok-add_below.ensures.differences f g (rw c.root.ensures at)));
+        at = filled (difference_at t) c.new-differences.result c.add_below.new.differences c.new-differences.ensures.empty (λ k outside. no-difference-outside t k tree outside) (rw (passed c.args.left_factor (search rules), passed c.args.right_factor (search rules), c.root.ensures) at (c.in_ok-add_below.ensures.differences f g (rw c.root.ensures at)));
       };
-      all = passed c.weighted.result (search rules) ∙ c.weighted.ensures ∙ sym all;
+      all = passed c.weighted.result (search rules) ∙ (rw (passed c.args.left_factor (search rules), passed c.args.right_factor (search rules)) at c.weighted.ensures) ∙ sym all;
       deep = first.deep;
     }

@@ -1,7 +1,8 @@
 use Rattle.std.proofs.Common.{sym, ◌∙◌, ap, Some, rules, arith, to_z, of_z, w64}
 use Rattle.tree_model.specs.Kept.{difference_at}
 use Rattle.tree_model.specs.Operations.{weighted_sum}
-use Rattle.plain_tree.proofs.AddingLemmas.{cut-at, can-split, difference-of-sum, no-differences-of-sum, halves-within, cut-is-no-leaf}
+use Rattle.plain_tree.proofs.AddingLemmas.{cut-at, small-difference, difference-of-sum, no-differences-of-sum}
+use Rattle.plain_tree.proofs.LeafValueLemmas.{halves-have-values}
 use Rattle.plain_tree.proofs.FillingLemmas.{fills-nothing, fills-all}
 use Rattle.plain_tree.proofs.Reading.{passed}
 use Rattle.plain_tree.proofs.Results.{OnOk-map, OnOk-from}
@@ -34,13 +35,13 @@ pub weighted-requires-clause-left : goal.weighted-requires-clause-left
 weighted-requires-clause-left t c =
     let two = sym (c.in-Some.ensures c.requires.0 c.requires.1 c.requires.2.kept) in
     let cut = cut-at c.requires.0 c.requires.1 c.args.self.now.left.now c.args.self.now.right.now c.args.self.now.depth c.args.key c.in-Some.here.left c.in-Some.here.right c.requires.2.kept two in
-    (can-split c.requires.0 c.args.key c.args.sums.left c.in-Some.here.left c.requires.2.kept.first.sound cut.first_above c.requires.2.first_sum cut.first).apart
+    small-difference c.requires.0 c.args.key c.in-Some.here.left c.requires.2.kept.first.sound cut.first
 
 pub weighted-requires-clause-right : goal.weighted-requires-clause-right
 weighted-requires-clause-right t c =
     let two = sym (c.in-Some.ensures c.requires.0 c.requires.1 c.requires.2.kept) in
     let cut = cut-at c.requires.0 c.requires.1 c.args.self.now.left.now c.args.self.now.right.now c.args.self.now.depth c.args.key c.in-Some.here.left c.in-Some.here.right c.requires.2.kept two in
-    (can-split c.requires.1 c.args.key c.args.sums.right c.in-Some.here.right c.requires.2.kept.second.sound cut.second_above c.requires.2.second_sum cut.second).apart
+    small-difference c.requires.1 c.args.key c.in-Some.here.right c.requires.2.kept.second.sound cut.second
 
 pub returns-in-None-clause-differences : goal.returns-in-None-clause-differences
 returns-in-None-clause-differences t c = OnOk-from c.check_leaf.result _ (λ f g at.
@@ -70,4 +71,4 @@ returns-in_ok-set_number-in-Some-clause-within t c = λ f g at.
     let cut = cut-at f g c.args.self.now.left.now c.args.self.now.right.now c.args.self.now.depth c.args.key c.in-Some.here.left c.in-Some.here.right at.kept two in
     let first = c.in_ok-add_below-in-Some.ensures.within f g (rw c.child.ensures (c.halves.ensures.left f g at two)) in
     let second = c.in_ok-add_below-in-Some-2.ensures.within f g (rw c.child-in-Some.ensures (c.halves.ensures.right f g at two)) in
-    halves-within c.args.key (weighted_sum c.args.self.now.left_factor f c.args.self.now.right_factor g) (cut-is-no-leaf f g c.args.key c.in-Some.here.left c.in-Some.here.right cut) (rw c.child.ensures at first) (rw c.child-in-Some.ensures at second)
+    halves-have-values (weighted_sum c.args.self.now.left_factor f c.args.self.now.right_factor g) c.args.key cut.left (rw c.child.ensures at first) (rw c.child-in-Some.ensures at second)
