@@ -3,23 +3,26 @@ use Rattle.std.proofs.Common.{◌≡◌, ℕ, ◌+◌, ◌-◌, ◌*◌, ◌/◌
 use Rattle.std.specs.BTreeMap.{BTreeMap, is_at}
 use Rattle.std.specs.Map.{lookup}
 use Rattle.std.specs.Int.RustNames.{unsigned_abs}
-use Rattle.std.proofs.lemmas.Bool.{cases_Bool, false_from_ne_true, false≢true}
+use Rattle.std.proofs.lemmas.Bool.{cases_Bool, or_left, false_from_ne_true, false≢true}
 use Rattle.std.proofs.Math.Nat.{div-eq_of_lt}
 use Rattle.tree_key.specs.Keys.{Key, root, key_cmp, width}
 use Rattle.tree_model.specs.Functions.{fits, max_depth, max_value}
 use Rattle.tree_model.specs.Kept.{leaf_sum_at, difference_at}
-use Rattle.tree_model.specs.Operations.{overflows}
+use Rattle.tree_model.specs.Operations.{overflows, refined, product}
 use Rattle.tree_model.specs.Project.{Projection, projected}
 use Rattle.tree_model.specs.Rows.{leaf_sums}
 use Rattle.tree_model.specs.Shapes.{IsShape, is_leaf, is_interior}
 use Rattle.tree_model.specs.Trees.{Tree, IsTree, HasValues, box_sum}
 use Rattle.tree_model.proofs.BelowLeaves.{key-parts}
-use Rattle.tree_model.proofs.KeptLaws.{leaves-at-keys, leaves-within, projections-have-values}
+use Rattle.tree_model.proofs.KeptLaws.{leaves-at-keys, leaves-within, projections-have-values, refined-have-values}
+use Rattle.tree_model.proofs.Combined.{refined-tree, product-tree}
 use Rattle.tree_model.proofs.Projected.{projected-tree}
 use Rattle.plain_tree.specs.LeafValues.{LeavesHaveValues}
 use Rattle.plain_tree.specs.Filling.{under, over, within, Fills}
 use Rattle.plain_tree.specs.Kept.{IsReconstructed}
 use Rattle.plain_tree.specs.Numbers.{number_at, IsSound, KeepsLeaves}
+use Rattle.plain_tree.specs.Multiplied.{IsKeyToMultiply}
+use Rattle.plain_tree.specs.WholeSums.{IsKeyToRefine}
 use Rattle.plain_tree.proofs.Under.{IsUnder, under-from}
 
 -- an empty map has no number
@@ -75,3 +78,41 @@ keeps-projection depth p leaves deep fit entries = record {
   };
   deep = refl;
 }
+
+-- refining, from the root on
+pub root-to-refine : (t : Tree) (depth : ℕ) (leaves : BTreeMap Key ℤ) (level : ℕ) → IsReconstructed t depth leaves → level ≤ depth → IsKeyToRefine t leaves level root None
+root-to-refine t depth leaves level is within = record {
+  keeps = is.keeps;
+  shallow = rw is.deep within;
+  inside = (refined-tree level t is.keeps.sound.tree).shape.root;
+  passed = rw is.keeps.sound.tree.shape.root refl;
+}
+
+pub refined-is-sound : (level : ℕ) (t : Tree) → IsSound t → IsSound (refined level t)
+refined-is-sound level t sound = record { tree = refined-tree level t sound.tree; values = refined-have-values level t sound.values; depth = sound.depth }
+
+-- multiplying, from the root on
+pub root-to-multiply :
+    (f g : Tree) (depth : ℕ) (left right : BTreeMap Key ℤ) →
+    IsReconstructed f depth left →
+    IsReconstructed g depth right →
+    IsKeyToMultiply f g left right depth root None None
+root-to-multiply f g depth left right first second = record {
+  keeps_left = first.keeps;
+  keeps_right = second.keeps;
+  depth_left = first.deep;
+  depth_right = second.deep;
+  inside = or_left (f.shape root) (g.shape root) first.keeps.sound.tree.shape.root;
+  passed_left = rw first.keeps.sound.tree.shape.root refl;
+  passed_right = rw second.keeps.sound.tree.shape.root refl;
+}
+
+pub product-is-sound :
+    (f g : Tree) (depth : ℕ) (left right : BTreeMap Key ℤ) →
+    IsReconstructed f depth left →
+    IsReconstructed g depth right →
+    LeavesHaveValues (product f g) root →
+    IsSound (product f g)
+product-is-sound f g depth left right first second within =
+    let tree = product-tree f g first.keeps.sound.tree second.keeps.sound.tree (first.deep ∙ sym second.deep) in
+    record { tree = tree; values = (values-from-leaves (product f g) tree within).0; depth = first.keeps.sound.depth }

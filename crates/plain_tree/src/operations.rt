@@ -2,7 +2,7 @@
 ghost use Rattle.std.specs.Prelude.{◌≡◌, ◌^◌, ◌≤◌, IfOk, Err, true, ℕ};
 ghost use Rattle.std.specs.Int.RustNames.{unsigned_abs};
 ghost use Rattle.tree_model.specs.Functions.{fits, max_depth};
-ghost use Rattle.tree_model.specs.Operations.{refined, weighted_sum, overflows};
+ghost use Rattle.tree_model.specs.Operations.{refined, weighted_sum, product, overflows};
 ghost use Rattle.tree_model.specs.Products.{inner_product};
 ghost use Rattle.tree_model.specs.Project.{projected};
 ghost use Rattle.tree_model.specs.Trees.{Tree};
@@ -14,10 +14,13 @@ ghost use Rattle.plain_tree.specs.Projecting.{projection_of};
 use crate::adding::{Addends, Pair};
 use crate::command_error::CommandError;
 use crate::compressing::compress_below;
+use crate::inner_products::inner_of;
 use crate::kept::Compressed;
+use crate::multiplying::multiply_below;
 use crate::numbers::Numbers;
 use crate::projecting::Projecting;
 use crate::reconstructing::reconstruct_below;
+use crate::refining::refine_below;
 use haar_node::Func;
 use std::alloc::Global;
 use std::collections::BTreeMap;
@@ -43,6 +46,19 @@ pub fn project(
         tolerance,
     };
     Ok(projecting.leaves(alloc)?)
+}
+
+/// The leaves of a tree with all keys down to a level.
+pub fn refine(alloc: Global, leaves: &Numbers, level: u8) -> Result<Numbers, OutOfMemory>
+    requires { (t : Tree) × (depth : ℕ) × IsReconstructed t depth leaves.now × (level ≤ depth) }
+    ensures { IfOk result (λ finer. (t : Tree) (depth : ℕ) →
+        IsReconstructed t depth leaves.now →
+        level ≤ depth →
+        IsReconstructed (refined level t) depth finer) }
+{
+    let mut sums = BTreeMap::new(alloc);
+    refine_below(leaves, level, Key::root(), None, &mut sums)?;
+    Ok(sums)
 }
 
 /// A tree in the compressed form, from its leaves.
@@ -114,4 +130,50 @@ pub fn add(
         sum: addends.weighted(sums),
         differences,
     })
+}
+
+/// The leaves of the product of two trees of a depth, from theirs.
+///
+/// # Errors
+///
+/// `Overflow` exactly where a value of the product is more than a cell may have, unless memory runs out before.
+pub fn multiply(
+    alloc: Global,
+    depth: u8,
+    left: &Numbers,
+    right: &Numbers,
+) -> Result<Numbers, CommandError>
+    requires { (f : Tree) × (g : Tree) ×
+        IsReconstructed f depth left.now × IsReconstructed g depth right.now }
+    ensures product { IfOk result (λ leaves. (f g : Tree) →
+        IsReconstructed f depth left.now →
+        IsReconstructed g depth right.now →
+        IsReconstructed (product f g) depth leaves) }
+    ensures over { result ≡ Err CommandError.Overflow → (f g : Tree) →
+        IsReconstructed f depth left.now →
+        IsReconstructed g depth right.now →
+        overflows (product f g) ≡ true }
+{
+    let mut sums = BTreeMap::new(alloc);
+    multiply_below(left, right, depth, Key::root(), None, None, &mut sums)?;
+    Ok(sums)
+}
+
+/// The inner product of two compressed trees of a depth.
+pub fn inner(depth: u8, left: &Compressed, right: &Compressed) -> i128
+    requires { (f : Tree) × (g : Tree) ×
+        IsCompressed f depth left.now.sum left.now.differences ×
+        IsCompressed g depth right.now.sum right.now.differences }
+    ensures { (f g : Tree) →
+        IsCompressed f depth left.now.sum left.now.differences →
+        IsCompressed g depth right.now.sum right.now.differences →
+        result ≡ inner_product f g }
+{
+    inner_of(
+        left.sum,
+        &left.differences,
+        right.sum,
+        &right.differences,
+        depth,
+    )
 }
