@@ -1,9 +1,8 @@
 -- Two trees that are added: their differences at a key, and the sums over its halves.
-use Rattle.std.proofs.Common.{◌≡◌, ℕ, length, ◌*◌, ◌^◌, ◌<◌, ◌≤◌, Bool, true, false, cond, ◌&&◌, ◌||◌, Option, Some, None, refl, sym, ◌∙◌, ap, subst, arith, inl, inr, ℤ, pos, ◌+ℤ◌, ◌-ℤ◌, ◌*ℤ◌, FitsSigned, w64, to_z, of_z}
-use Rattle.std.specs.Prelude.{int_rem}
+use Rattle.std.proofs.Common.{◌≡◌, ℕ, length, ◌*◌, ◌^◌, ◌<◌, ◌≤◌, Bool, true, false, cond, ◌&&◌, ◌||◌, Option, Some, None, refl, sym, ◌∙◌, ap, subst, arith, inl, inr, ℤ, pos, ◌+ℤ◌, ◌*ℤ◌, FitsSigned, w64, to_z, of_z}
 use Rattle.std.specs.Int.RustNames.{unsigned_abs}
 use Rattle.std.proofs.lemmas.Int.{ints}
-use Rattle.std.proofs.lemmas.Bool.{cases_Bool, cases_lt, and_parts, or_left, or_cases, false≢true}
+use Rattle.std.proofs.lemmas.Bool.{cases_Bool, cases_lt, and_parts, or_left, false≢true}
 use Rattle.std.proofs.lemmas.Option.{some_pair_parts}
 use Rattle.tree_key.specs.Keys.{Key, root, child, width}
 use Rattle.tree_model.specs.Functions.{max_value}
@@ -12,7 +11,6 @@ use Rattle.tree_model.specs.Kept.{difference_at}
 use Rattle.tree_model.specs.Operations.{union, weighted_sum, overflows}
 use Rattle.tree_model.specs.Shapes.{IsShape, is_interior, is_leaf, is_key_of}
 use Rattle.tree_model.specs.Trees.{Tree, IsTree, box_sum, difference}
-use Rattle.tree_model.proofs.BoxSums.{box_sum-children}
 use Rattle.tree_model.proofs.Bounds.{sums_fit}
 use Rattle.tree_model.proofs.CombinedSums.{sums-linear}
 use Rattle.tree_model.proofs.LeafSums.{overflow-leaves}
@@ -23,12 +21,11 @@ use Rattle.plain_tree.specs.LeafValues.{LeavesHaveValues}
 use Rattle.plain_tree.proofs.LeafValueLemmas.{leaf-has-values}
 use Rattle.std.specs.BTreeMap.{BTreeMap}
 use Rattle.tree_model.proofs.Combined.{union-shape, weighted_sum-tree}
-use Rattle.plain_tree.specs.Numbers.{number_at, same_key, IsSound, KeepsDifferences}
+use Rattle.plain_tree.specs.Numbers.{number_at, IsSound, KeepsDifferences}
 use Rattle.plain_tree.specs.Filling.{under}
 use Rattle.plain_tree.specs.InnerProducts.{IsCompressed}
 use Rattle.plain_tree.proofs.Reading.{passed}
-use Rattle.plain_tree.proofs.Under.{under-split, same-key}
-use Rattle.plain_tree.proofs.ShapeLemmas.{no-leaf-below, no-interior-under}
+use Rattle.plain_tree.proofs.ShapeLemmas.{no-interior-under}
 
 -- a key with a child in a shape is in it
 key-above : (depth : ℕ) (shape : Key → Bool) (k : Key) → IsShape depth shape → shape (child k false) ≡ true → shape k ≡ true

@@ -14,3 +14,7 @@ pub mod RefiningLemmas
 pub mod LeafProductLemmas
 pub mod MultiplyingLemmas
 pub mod LeafValueLemmas
+pub mod Printing
+pub mod KeptReads
+pub mod VersionLemmas
+pub mod SerialLemmas

@@ -1,13 +1,11 @@
 -- Keys of the product of two trees.
-use Rattle.std.proofs.Common.{◌≡◌, ℕ, ◌*◌, ◌≤◌, ◌⊎◌, Bool, true, false, cond, ◌||◌, Option, Some, None, Result, Ok, Err, inl, inr, refl, sym, ◌∙◌, ap, subst, arith, ℤ, to_z, of_z, w64, FitsSigned}
+use Rattle.std.proofs.Common.{◌≡◌, ℕ, ◌⊎◌, Bool, true, false, cond, Option, Some, None, Result, Ok, Err, inl, inr, refl, sym, ◌∙◌, ap, arith, ℤ, to_z, of_z, w64, FitsSigned}
 use Rattle.std.specs.BTreeMap.{BTreeMap}
-use Rattle.std.specs.Int.RustNames.{unsigned_abs}
 use Rattle.std.specs.Option.{option_zip}
 use Rattle.std.specs.Result.{IsErrAnd}
-use Rattle.std.proofs.lemmas.Bool.{cases_Bool, or_cases, or_left, or_right}
+use Rattle.std.proofs.lemmas.Bool.{or_left, or_right}
 use Rattle.std.proofs.lemmas.Option.{same_Some}
-use Rattle.tree_key.specs.Keys.{Key, child, width}
-use Rattle.tree_model.specs.Functions.{max_value}
+use Rattle.tree_key.specs.Keys.{Key, child}
 use Rattle.tree_model.specs.Kept.{leaf_sum_at}
 use Rattle.tree_model.specs.Operations.{union, product}
 use Rattle.tree_model.specs.Shapes.{is_leaf}
@@ -15,13 +13,11 @@ use Rattle.tree_model.specs.Trees.{Tree, IsTree, box_sum}
 use Rattle.tree_model.proofs.BelowLeaves.{key-parts}
 use Rattle.tree_model.proofs.Combined.{product-tree, leaf-is}
 use Rattle.plain_tree.specs.Numbers.{number_at, same_key}
-use Rattle.plain_tree.specs.Filling.{under, Fills}
+use Rattle.plain_tree.specs.Filling.{Fills}
 use Rattle.plain_tree.specs.Multiplied.{IsKeyToMultiply, IsLeafToMultiply}
 use Rattle.plain_tree.specs.WholeSums.{half_sum}
 use Rattle.plain_tree.proofs.LeafFilling.{fills-leaf}
 use Rattle.plain_tree.proofs.Reading.{passed}
-use Rattle.plain_tree.proofs.ShapeLemmas.{no-leaf-below}
-use Rattle.plain_tree.proofs.Under.{under-split, same-key}
 use Rattle.plain_tree.proofs.WholeSumLemmas.{AnswersWholeSum, IsCut, half-from-above, whole-with, cut-where-none, as-left}
 
 -- an error that is passed on

@@ -1,18 +1,17 @@
 -- Whole trees: what a map has that was filled from the root on.
-use Rattle.std.proofs.Common.{◌≡◌, ℕ, ◌+◌, ◌-◌, ◌*◌, ◌/◌, ◌^◌, ◌<◌, ◌≤◌, List, [], Bool, true, false, cond, ◌&&◌, Option, Some, None, refl, sym, ◌∙◌, ap, subst, arith, inl, inr, ℤ}
+use Rattle.std.proofs.Common.{◌≡◌, ℕ, ◌-◌, ◌≤◌, [], Bool, true, false, cond, Option, Some, None, refl, sym, ◌∙◌, ap, arith, inl, inr, ℤ}
 use Rattle.std.specs.BTreeMap.{BTreeMap, is_at}
 use Rattle.std.specs.Map.{lookup}
-use Rattle.std.specs.Int.RustNames.{unsigned_abs}
 use Rattle.std.proofs.lemmas.Bool.{cases_Bool, or_left, false_from_ne_true, false≢true}
 use Rattle.std.proofs.Math.Nat.{div-eq_of_lt}
-use Rattle.tree_key.specs.Keys.{Key, root, key_cmp, width}
-use Rattle.tree_model.specs.Functions.{fits, max_depth, max_value}
+use Rattle.tree_key.specs.Keys.{Key, root, key_cmp}
+use Rattle.tree_model.specs.Functions.{fits, max_depth}
 use Rattle.tree_model.specs.Kept.{leaf_sum_at, difference_at}
 use Rattle.tree_model.specs.Operations.{overflows, refined, product}
 use Rattle.tree_model.specs.Project.{Projection, projected}
 use Rattle.tree_model.specs.Rows.{leaf_sums}
-use Rattle.tree_model.specs.Shapes.{IsShape, is_leaf, is_interior}
-use Rattle.tree_model.specs.Trees.{Tree, IsTree, HasValues, box_sum}
+use Rattle.tree_model.specs.Shapes.{IsShape, is_leaf}
+use Rattle.tree_model.specs.Trees.{Tree, IsTree, HasValues}
 use Rattle.tree_model.proofs.BelowLeaves.{key-parts}
 use Rattle.tree_model.proofs.KeptLaws.{leaves-at-keys, leaves-within, projections-have-values, refined-have-values}
 use Rattle.tree_model.proofs.Combined.{refined-tree, product-tree}
@@ -20,10 +19,10 @@ use Rattle.tree_model.proofs.Projected.{projected-tree}
 use Rattle.plain_tree.specs.LeafValues.{LeavesHaveValues}
 use Rattle.plain_tree.specs.Filling.{under, over, within, Fills}
 use Rattle.plain_tree.specs.Kept.{IsReconstructed}
-use Rattle.plain_tree.specs.Numbers.{number_at, IsSound, KeepsLeaves}
+use Rattle.plain_tree.specs.Numbers.{number_at, IsSound}
 use Rattle.plain_tree.specs.Multiplied.{IsKeyToMultiply}
 use Rattle.plain_tree.specs.WholeSums.{IsKeyToRefine}
-use Rattle.plain_tree.proofs.Under.{IsUnder, under-from}
+use Rattle.plain_tree.proofs.Under.{under-from}
 
 -- an empty map has no number
 no-number : (numbers : BTreeMap Key ℤ) (k : Key) → numbers.entries ≡ [] → number_at numbers k ≡ None

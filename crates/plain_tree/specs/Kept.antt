@@ -43,3 +43,17 @@ HasDifferences depth None None = ⊤
 HasDifferences depth None (Some t) = ⊥
 HasDifferences depth (Some compressed) None = ⊥
 HasDifferences depth (Some compressed) (Some t) = IsCompressed t depth compressed.sum compressed.differences
+
+-- the same of two trees
+abbrev pub HaveLeaves : ℕ → Option (BTreeMap Key ℤ × BTreeMap Key ℤ) → Option (Tree × Tree) → Type 0
+HaveLeaves depth None None = ⊤
+HaveLeaves depth None (Some trees) = ⊥
+HaveLeaves depth (Some leaves) None = ⊥
+HaveLeaves depth (Some leaves) (Some trees) = IsReconstructed trees.0 depth leaves.0 × IsReconstructed trees.1 depth leaves.1
+
+abbrev pub HaveDifferences : ℕ → Option (CompressedTree × CompressedTree) → Option (Tree × Tree) → Type 0
+HaveDifferences depth None None = ⊤
+HaveDifferences depth None (Some trees) = ⊥
+HaveDifferences depth (Some compressed) None = ⊥
+HaveDifferences depth (Some compressed) (Some trees) =
+    IsCompressed trees.0 depth compressed.0.sum compressed.0.differences × IsCompressed trees.1 depth compressed.1.sum compressed.1.differences

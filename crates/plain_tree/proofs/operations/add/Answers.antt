@@ -1,7 +1,6 @@
-use Rattle.std.proofs.Common.{◌∙◌, rules, sym, ◌≤◌, to_z, of_z, w64}
+use Rattle.std.proofs.Common.{◌∙◌, rules, sym, to_z, of_z, w64}
 use Rattle.tree_key.specs.Keys.{root}
 use Rattle.tree_model.specs.Kept.{difference_at}
-use Rattle.tree_model.specs.Nodes.{max_number}
 use Rattle.tree_model.specs.Operations.{weighted_sum}
 use Rattle.plain_tree.proofs.AddingLemmas.{small-sum, sum-is-tree, sum-over, roots-kept}
 use Rattle.plain_tree.proofs.Reading.{passed}

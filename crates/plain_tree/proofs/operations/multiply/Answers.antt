@@ -1,7 +1,5 @@
-use Rattle.std.proofs.Common.{sym}
 use Rattle.tree_model.specs.Kept.{leaf_sum_at}
 use Rattle.tree_model.specs.Operations.{product}
-use Rattle.tree_model.proofs.Combined.{product-tree}
 use Rattle.plain_tree.specs.declared.command_error.CommandError.TheVariants.{Overflow}
 use Rattle.plain_tree.proofs.Results.{handed-on}
 use Rattle.plain_tree.proofs.Roots.{filled, no-sum-outside, root-to-multiply, product-is-sound}

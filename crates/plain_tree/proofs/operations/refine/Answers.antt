@@ -1,4 +1,3 @@
-use Rattle.std.proofs.Common.{sym}
 use Rattle.tree_model.specs.Kept.{leaf_sum_at}
 use Rattle.tree_model.specs.Operations.{refined}
 use Rattle.plain_tree.proofs.Roots.{filled, no-sum-outside, root-to-refine, refined-is-sound}
