@@ -11,6 +11,7 @@ mod adding;
 mod command_error;
 mod compressing;
 mod inner_products;
+mod jobs;
 mod kept;
 mod lines;
 mod multiplying;
@@ -19,7 +20,6 @@ mod operations;
 mod projecting;
 mod reconstructing;
 mod refining;
-mod serial;
 mod serial_error;
 #[cfg(test)]
 mod tests;
@@ -27,5 +27,5 @@ mod trees;
 mod whole_sums;
 mod writing;
 
-pub use serial::serial;
+pub use jobs::serial;
 pub use serial_error::SerialError;

@@ -112,7 +112,8 @@ fn a_ramp_is_compressed_and_reconstructed(rt: HostRuntime) -> Result<(), Fail> {
     commands.push(Command::Fence)?;
     commands.push(reconstruct(alloc, b"f")?)?;
     commands.push(print(alloc, b"f")?)?;
-    let text = b"tree f compressed 6\n0 0 -4\n1 0 -1\n1 1 -1\ninner f f 14\ntree f reconstructed\n2 0 0\n2 1 1\n2 2 2\n2 3 3\n";
+    let text =
+        b"tree f compressed 6\n0 0 -4\n1 0 -1\n1 1 -1\ninner f f 14\ntree f reconstructed\n2 0 0\n2 1 1\n2 2 2\n2 3 3\n";
     expect(&rt, alloc, 2, commands, 0, text.as_slice());
     Ok(())
 }

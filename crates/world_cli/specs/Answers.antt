@@ -1,8 +1,8 @@
 -- What the program answers: a status, and the text that goes with it.
-use Rattle.std.specs.Prelude.{◌≡◌, ℕ, ◌≤◌, ◌⊎◌, nat_lt, List, [], ◌∷◌, ◌++◌, length, take, Option, Result, Ok, Err, MatchOption, ⊤, codes, if◌then◌else◌}
+use Rattle.std.specs.Prelude.{◌≡◌, ℕ, ◌≤◌, ◌⊎◌, nat_lt, List, [], ◌∷◌, ◌++◌, length, take, Option, Result, Ok, Err, MatchOption, is_none, ⊤, codes, if◌then◌else◌}
 use Rattle.std.specs.Io.KnownBytes.{Appends}
 use Rattle.outside.specs.Causes.{Rose}
-use Rattle.tree_model.specs.Texts.{JobData, job_text}
+use Rattle.tree_model.specs.Jobs.{JobData, job_text, first_overflow}
 use Rattle.job_lang.specs.declared.JobFault.{JobFault}
 use Rattle.job_lang.specs.Faults.{fault_line}
 use Rattle.job_lang.specs.Reading.{reading_of}
@@ -17,6 +17,9 @@ usage = 1
 abbrev pub job_fault : ℕ
 job_fault = 2
 
+abbrev pub overflow : ℕ
+overflow = 3
+
 abbrev pub out_of_memory : ℕ
 out_of_memory = 4
 
@@ -28,7 +31,7 @@ write_fault = 6
 
 -- one of the statuses
 abbrev pub IsStatus : ℕ → Type 0
-IsStatus n = (n ≡ done) ⊎ ((n ≡ usage) ⊎ ((n ≡ job_fault) ⊎ ((n ≡ out_of_memory) ⊎ ((n ≡ read_fault) ⊎ (n ≡ write_fault)))))
+IsStatus n = (n ≡ done) ⊎ ((n ≡ usage) ⊎ ((n ≡ job_fault) ⊎ ((n ≡ overflow) ⊎ ((n ≡ out_of_memory) ⊎ ((n ≡ read_fault) ⊎ (n ≡ write_fault))))))
 
 -- the most bytes that a job's text may have
 abbrev pub max_input : ℕ
@@ -45,9 +48,13 @@ pub record Answer : Type 0 where
   pub status : ℕ
   pub text : List ℕ
 
+-- the answer to a job: its text, and whether a command overflows
+abbrev pub job_answer : JobData → Answer
+job_answer job = record { status = if is_none (first_overflow job) then done else overflow; text = job_text job }
+
 -- the answer to a job, or to its fault
 abbrev pub reading_answer : Result JobData JobFault → Answer
-reading_answer (Ok job) = record { status = done; text = job_text job }
+reading_answer (Ok job) = job_answer job
 reading_answer (Err fault) = record { status = job_fault; text = fault_line fault ++ codes "\n" }
 
 -- the answer of `run` to the bytes of its input

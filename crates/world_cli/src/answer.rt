@@ -1,21 +1,22 @@
 //! What the program answers to the bytes of its input.
-ghost use Rattle.std.specs.Prelude.{◌≡◌, ◌≤◌, ◌++◌, ◌∷◌, [], length, codes, IfOk, IsErrOf};
+ghost use Rattle.std.specs.Prelude.{◌≡◌, ◌≤◌, ◌++◌, ◌∷◌, [], length, codes, IfOk, OnOk, IsErrOf};
 ghost use Rattle.outside.specs.Causes.{Rose};
+ghost use Rattle.tree_model.specs.OperationTexts.{overflow_line};
 ghost use Rattle.job_lang.specs.Faults.{fault_line};
-ghost use Rattle.world_cli.specs.Answers.{run_answer, max_input, Answers};
+ghost use Rattle.world_cli.specs.Answers.{run_answer, job_answer, max_input, Answers};
 ghost use Rattle.world_cli.specs.Status.{code_of};
 
-use crate::evaluate::job_text;
 use crate::status::Status;
-use job_lang::{JobFault, ParseError, parse};
+use job_lang::{Job, JobFault, ParseError, parse};
 use outside::{ReadAllError, Source, read_all};
+use plain_tree::{SerialError, serial};
 use std::alloc::Global;
 use tree_key::{OutOfMemory, Text};
 
 /// A status, and the text that goes with it.
 #[derive(Drop)]
 pub struct Answer {
-    /// `Done` for a job, `JobFault` for what isn't one.
+    /// `Done` for a job, `Overflow` for one with a command that overflows, `JobFault` for what isn't a job.
     pub status: Status,
     /// What is to be written: the text of the job, or the line of its fault.
     pub text: Text,
@@ -48,6 +49,36 @@ fn fault_text(alloc: Global, fault: JobFault) -> Result<Text, OutOfMemory>
     Ok(Text::of_bytes(line.into_bytes()))
 }
 
+// Adds the line of the command that overflows.
+fn add_overflow(alloc: Global, text: &mut Text, command: u32) -> Result<(), OutOfMemory>
+    ensures { OnOk result (text.new ≡ text.old ++ overflow_line command) }
+{
+    let line = format!(in alloc; "overflow at command {command}\n")?;
+    text.add(line.as_bytes())
+}
+
+// The answer to a job: its text, which ends with the command that overflows, if one does.
+fn answer_job(alloc: Global, job: &Job) -> Result<Answer, OutOfMemory>
+    ensures status { IfOk result (λ answer. code_of answer.status ≡ (job_answer job.now).status) }
+    ensures text { IfOk result (λ answer. answer.text ≡ (job_answer job.now).text) }
+{
+    match serial(alloc, job) {
+        Ok(text) => Ok(Answer {
+            status: Status::Done,
+            text,
+        }),
+        Err(SerialError::Overflow { command, text }) => {
+            let mut text = text;
+            add_overflow(alloc, &mut text, command)?;
+            Ok(Answer {
+                status: Status::Overflow,
+                text,
+            })
+        }
+        Err(SerialError::OutOfMemory) => Err(OutOfMemory),
+    }
+}
+
 // The answer to bytes that aren't too many.
 fn answer_bytes(alloc: Global, bytes: &[u8]) -> Result<Answer, OutOfMemory>
     requires { length bytes.now ≤ max_input }
@@ -55,10 +86,7 @@ fn answer_bytes(alloc: Global, bytes: &[u8]) -> Result<Answer, OutOfMemory>
     ensures text { IfOk result (λ answer. answer.text ≡ (run_answer bytes.now).text) }
 {
     match parse(alloc, bytes) {
-        Ok(job) => Ok(Answer {
-            status: Status::Done,
-            text: job_text(alloc, &job)?,
-        }),
+        Ok(job) => answer_job(alloc, &job),
         Err(ParseError::Fault(fault)) => Ok(Answer {
             status: Status::JobFault,
             text: fault_text(alloc, fault)?,

@@ -2,11 +2,8 @@
 #![tactic(auto)]
 
 mod answer;
-mod evaluate;
 mod examples;
-mod lines;
 mod program;
-mod projecting;
 mod status;
 #[cfg(test)]
 mod tests;

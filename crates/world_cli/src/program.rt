@@ -48,6 +48,7 @@ fn finish<K: Sink>(sink: &mut K, status: Status, text: &[u8]) -> u8
 /// - 0: the text of the job was written.
 /// - 1: the words aren't the one word `run`; the usage line was written.
 /// - 2: the input isn't a job, or has more than 1,048,576 bytes; the line of its first fault was written.
+/// - 3: a command of the job overflows; the text before it was written, and a line that names it.
 /// - 4: there was no memory; nothing was written.
 /// - 5: the source failed; nothing was written.
 /// - 6: the sink failed; a front of what was to be written was written.
@@ -70,6 +71,8 @@ pub fn world_main<S: Source, K: Sink>(
         IsAnswered 0 (S.left source.old) (K.taken sink.old) (K.taken sink.new) }
     ensures job_fault { result ≡ 2 →
         IsAnswered 2 (S.left source.old) (K.taken sink.old) (K.taken sink.new) }
+    ensures overflow { result ≡ 3 →
+        IsAnswered 3 (S.left source.old) (K.taken sink.old) (K.taken sink.new) }
     ensures out_of_memory { result ≡ 4 → sink.new ≡ sink.old }
     ensures read_fault { result ≡ 5 →
         Rose (S.faults source.old) (S.faults source.new) × (sink.new ≡ sink.old) }

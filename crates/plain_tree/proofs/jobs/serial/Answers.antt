@@ -3,7 +3,7 @@ use Rattle.tree_model.specs.Jobs.{command_lines}
 use Rattle.job_lang.specs.Data.{data_of}
 use Rattle.plain_tree.specs.Trees.{HasVersions, versions_behind}
 use Rattle.plain_tree.proofs.SerialLemmas.{mapped-at, versions-next, lines-next, overflow-later, overflow-here, limits-at, few-before}
-use Rattle.plain_tree.proofs.serial.serial.Goals as goal
+use Rattle.plain_tree.proofs.jobs.serial.Goals as goal
 
 pub run_command-requires-clause-limits : goal.run_command-requires-clause-limits
 run_command-requires-clause-limits c =
