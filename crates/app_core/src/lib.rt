@@ -9,7 +9,9 @@
 //! with labels, and its laws, are this project's own.
 #![tactic(auto)]
 
+mod app;
 mod effect;
+mod facts;
 mod gate;
 mod inputs;
 mod label;
@@ -17,7 +19,9 @@ mod naming;
 mod needs;
 mod outline;
 
+pub use app::App;
 pub use effect::{Effect, Effects, OutOfMemory};
+pub use facts::Facts;
 pub use gate::{Gate, NoGate};
 pub use inputs::Inputs;
 pub use label::{CellName, Label};
