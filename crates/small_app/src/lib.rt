@@ -12,7 +12,11 @@
 #![tactic(auto)]
 
 mod app;
+mod held;
+mod shared;
 mod unit;
 
 pub use app::SmallApp;
+pub use held::{Held, Table};
+pub use shared::{give, look, step_and_look};
 pub use unit::Unit;
