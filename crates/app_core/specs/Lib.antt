@@ -6,3 +6,5 @@ pub mod Homes
 pub mod Inputs
 pub mod Effects
 pub mod Outlines
+pub mod Spawns
+pub mod Laws

@@ -1,5 +1,5 @@
 //! What a step asks for.
-ghost use Rattle.std.specs.Prelude.{◌≡◌, ◌↔◌, [], ◌∷◌, ◌++◌, OnOk, OnErr, IsTrue, Some, codes, length, option_to_list, slice_get};
+ghost use Rattle.std.specs.Prelude.{◌≡◌, ◌↔◌, ◌<◌, [], ◌∷◌, ◌++◌, OnOk, OnErr, IsTrue, IsSome, Some, codes, length, option_to_list, slice_get};
 ghost use Rattle.std.specs.Option.{option_copied};
 
 use crate::label::{CellName, Label};
@@ -100,9 +100,17 @@ impl<U, V, C> Effects<U, V, C> {
 
     /// Takes the first effect out. None exactly where there is none. It takes no memory.
     pub fn take_first(&mut self) -> Option<Effect<U, V, C>>
-        ensures { self.old ≡ option_to_list result ++ self.new }
+        ensures some { IsSome result ↔ (0 < length self.old) }
+        ensures rest { self.old ≡ option_to_list result ++ self.new }
     {
         self.items.pop_front()
+    }
+
+    /// All of them, in order. It takes no memory.
+    pub fn into_vec(self) -> Vec<Effect<U, V, C>>
+        ensures { result.items ≡ self }
+    {
+        self.items.into_vec()
     }
 }
 
@@ -116,5 +124,54 @@ impl<U: Drop, V: Drop, C: Drop> Effects<U, V, C> {
             Ok(()) => Ok(()),
             Err(_) => Err(OutOfMemory),
         }
+    }
+}
+
+#[cfg(test)]
+mod tests {
+    use super::*;
+    use std::test::Fail;
+
+    const FUTURE: Label = Label {
+        command: 1,
+        part: 0,
+        place: 1,
+    };
+
+    const ENTRY: CellName = CellName {
+        version: 1,
+        place: 1,
+    };
+
+    #[test]
+    fn effects_come_out_in_the_order_in_which_they_went_in(rt: HostRuntime) {
+        let asked: [Effect<u8, u64, u32>; 3] = [
+            Effect::Put(ENTRY, 5),
+            Effect::Give(FUTURE, 7),
+            Effect::Spawn(3),
+        ];
+        let mut effects = Effects::new(rt.alloc());
+        for effect in &asked {
+            let copy = match effect {
+                Effect::Put(entry, cell) => Effect::Put(*entry, *cell),
+                Effect::Give(future, value) => Effect::Give(*future, *value),
+                _ => Effect::Spawn(3),
+            };
+            assert!(rt; effects.push(copy).is_ok());
+        }
+        assert_eq!(rt; (effects.len(), effects.is_empty()), (3, false));
+        assert!(rt; effects.get(1) == Some(&asked[1]) && effects.get(3).is_none());
+        let mut left = Effects::from_vec(effects.into_vec());
+        for effect in asked {
+            assert!(rt; left.take_first() == Some(effect));
+        }
+        assert!(rt; left.take_first().is_none() && left.is_empty());
+    }
+
+    #[test]
+    fn want_of_memory_prints_as_such(rt: HostRuntime) -> Result<(), Fail> {
+        let printed = OutOfMemory.to_string(rt.alloc())?;
+        assert_eq!(rt; printed.as_str(), "out of memory");
+        Ok(())
     }
 }

@@ -22,3 +22,19 @@ impl Gate for NoGate {
 
     fn leave<R: Wait>(&self, _rt: &R, _rank: u32, _command: u32) {}
 }
+
+#[cfg(test)]
+mod tests {
+    use super::*;
+
+    // A task's step under a gate.
+    fn pass<G: Gate, R: Wait>(gate: &G, rt: &R) {
+        gate.enter(rt, 0, 1);
+        gate.leave(rt, 0, 1);
+    }
+
+    #[test]
+    fn no_gate_holds_nothing_back(rt: HostRuntime) {
+        pass(&NoGate, &rt);
+    }
+}

@@ -66,3 +66,23 @@ impl<V, C> Inputs<V, C> {
         (values, cells)
     }
 }
+
+#[cfg(test)]
+mod tests {
+    use super::*;
+    use std::test::Fail;
+
+    #[test]
+    fn inputs_lend_what_was_moved_in(rt: HostRuntime) -> Result<(), Fail> {
+        let values = [5u64, 7].to_vec(rt.alloc())?;
+        let cells = [3u8].to_vec(rt.alloc())?;
+        let inputs = Inputs::new(values, cells, 11);
+        assert!(rt; inputs.values() == [5, 7].as_slice());
+        assert!(rt; inputs.cells() == [3].as_slice());
+        assert_eq!(rt; inputs.size(), 11);
+        let (values, cells) = inputs.into_parts();
+        assert!(rt; values.as_slice() == [5, 7].as_slice());
+        assert!(rt; cells.as_slice() == [3].as_slice());
+        Ok(())
+    }
+}

@@ -15,6 +15,7 @@ mod facts;
 mod gate;
 mod inputs;
 mod label;
+pub mod laws;
 mod naming;
 mod needs;
 mod outline;

@@ -112,3 +112,43 @@ fn are_distinct(labels: &[Label]) -> bool
     }
     true
 }
+
+#[cfg(test)]
+mod tests {
+    use super::*;
+
+    // A label that differs from the others at another place.
+    fn future(place: u64) -> Label {
+        Label {
+            command: 1,
+            part: 0,
+            place,
+        }
+    }
+
+    #[test]
+    fn at_most_sixteen_different_labels_are_needs(rt: HostRuntime) {
+        let mut labels = [future(0); 17];
+        for (i, label) in labels.iter_mut().enumerate() {
+            label.place = i as u64;
+        }
+        for (count, expected) in [(0usize, true), (1, true), (16, true), (17, false)] {
+            let needs = Needs::of(&labels[..count]);
+            assert_eq!(rt; needs.is_some(), expected, "{count} labels");
+        }
+        let repeated = [future(3), future(4), future(3)];
+        assert_eq!(rt; Needs::of(&repeated), None);
+        assert_eq!(rt; Needs::of(&repeated[1..]).map(|n| n.len()), Some(2));
+    }
+
+    #[test]
+    fn needs_keep_their_order(rt: HostRuntime) {
+        let labels = [future(9), future(2)];
+        let needs = Needs::of(&labels).unwrap_or(Needs::none());
+        assert_eq!(rt; (needs.len(), needs.is_empty()), (2, false));
+        assert!(rt; needs.labels() == labels.as_slice());
+        let got = [needs.get(0), needs.get(1), needs.get(2)];
+        assert_eq!(rt; got, [Some(future(9)), Some(future(2)), None]);
+        assert_eq!(rt; (Needs::none().len(), Needs::none().is_empty()), (0, true));
+    }
+}
