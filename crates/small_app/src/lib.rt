@@ -14,6 +14,8 @@
 mod app;
 mod held;
 mod shared;
+#[cfg(test)]
+mod tests;
 mod unit;
 
 pub use app::SmallApp;
