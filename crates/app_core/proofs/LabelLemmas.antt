@@ -1,6 +1,6 @@
 -- Labels that are named, and entries that are touched, by one outline of a list.
-use Rattle.std.proofs.Common.{◌≡◌, ℕ, zero, suc, ◌+◌, ◌<◌, ◌≤◌, Bool, true, false, List, [], ◌∷◌, ◌++◌, length, refl, sym, ap, ◌∙◌, subst, arith, length-append, rules}
-use Rattle.std.specs.Prelude.{Option, Some, None, slice_get, Contains, slice_index_or}
+use Rattle.std.proofs.Common.{◌≡◌, ℕ, zero, suc, ◌+◌, Bool, true, false, List, [], ◌∷◌, ◌++◌, length, refl, sym, ap, ◌∙◌, subst, arith, length-append, rules}
+use Rattle.std.specs.Prelude.{Option, Some, None, slice_get, Contains}
 use Rattle.std.specs.List.{flat_map, list_any}
 use Rattle.std.proofs.lemmas.List.{get_or_append_left, get_or-append-add}
 use Rattle.app_core.specs.declared.label.Label.{Label}

@@ -1,5 +1,5 @@
 -- What the laws of steps and starts say of two spawns.
-use Rattle.std.proofs.Common.{◌≡◌, ◌≢◌, ℕ, Bool, true, false, List, refl, sym, ap, ◌∙◌, subst, rules}
+use Rattle.std.proofs.Common.{◌≡◌, ◌≢◌, ℕ, Bool, true, false, List, refl, subst, rules}
 use Rattle.std.specs.Prelude.{Option, Some, None, IfSome, slice_get, ◌||◌}
 use Rattle.app_core.specs.declared.label.Label.{Label}
 use Rattle.app_core.specs.declared.outline.Outline.{Outline}

@@ -1,5 +1,5 @@
 -- The commands of an application, by their numbers.
-use Rattle.std.specs.Prelude.{◌≡◌, ℕ, zero, suc, ◌≤◌, ◌<◌, List, length, Option, Some, None, slice_get}
+use Rattle.std.specs.Prelude.{◌≡◌, ℕ, zero, suc, ◌≤◌, List, length, Option, Some, None, slice_get}
 use Rattle.app_core.specs.declared.outline.CommandKind.{CommandKind}
 use Rattle.app_core.specs.declared.outline.CommandKind.TheVariants.{Work}
 

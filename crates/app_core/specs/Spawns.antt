@@ -1,5 +1,5 @@
 -- What one bringer spawns: the starts of a command, or the effects of a step.
-use Rattle.std.specs.Prelude.{◌≡◌, ℕ, Bool, true, List, Some, slice_get}
+use Rattle.std.specs.Prelude.{◌≡◌, ℕ, true, List, Some, slice_get}
 use Rattle.app_core.specs.declared.label.Label.{Label}
 use Rattle.app_core.specs.declared.outline.Outline.{Outline}
 use Rattle.app_core.specs.Outlines.{has_due, has_need}

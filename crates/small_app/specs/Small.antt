@@ -1,5 +1,5 @@
 -- The small application: its names, its ranks, its steps, and what is right in it.
-use Rattle.std.specs.Prelude.{◌≡◌, ℕ, zero, suc, ◌+◌, ◌*◌, ◌%◌, ◌^◌, ◌==◌, ◌&&◌, if◌then◌else◌, Bool, true, false, MatchBool, List, [], ◌∷◌, Option, Some, None, ⊤, slice_index, Contains}
+use Rattle.std.specs.Prelude.{◌≡◌, ℕ, ◌+◌, ◌*◌, ◌%◌, ◌^◌, ◌==◌, if◌then◌else◌, Bool, true, false, MatchBool, List, [], ◌∷◌, Option, Some, None, ⊤, slice_index, Contains}
 use Rattle.app_core.specs.declared.Label.{Label}
 use Rattle.app_core.specs.declared.CellName.{CellName}
 use Rattle.app_core.specs.declared.CommandKind.{CommandKind}

@@ -1,19 +1,19 @@
 -- The small application keeps the laws of an application.
 use Rattle.std.proofs.Common.{◌≡◌, ◌≢◌, ℕ, zero, suc, ◌+◌, ◌*◌, ◌-◌, ◌%◌, ◌^◌, ◌≤◌, ◌<◌, Bool, true, false, List, [], ◌∷◌, length, refl, sym, ap, subst, ◌∙◌, arith, rules}
 use Rattle.std.proofs.lemmas.Bool.Decides.{nat_tests}
-use Rattle.std.specs.Prelude.{Option, Some, None, IsSome, IfSome, ◌↔◌, ⊤, slice_index, Contains, if◌then◌else◌, ◌==◌, nat_lt}
+use Rattle.std.specs.Prelude.{Option, Some, None, IsSome, IfSome, ◌↔◌, slice_index, Contains, if◌then◌else◌, ◌==◌, nat_lt}
 use Rattle.std.specs.List.{AllByRecursion}
 use Rattle.app_core.specs.declared.Label.{Label}
 use Rattle.app_core.specs.declared.CellName.{CellName}
 use Rattle.app_core.specs.Given.{Given}
-use Rattle.app_core.specs.Commands.{kind_of, IsCommand, IsWork, IsRankCount}
+use Rattle.app_core.specs.Commands.{IsCommand, IsWork, IsRankCount}
 use Rattle.app_core.specs.Homes.{rank_within}
-use Rattle.app_core.specs.Inputs.{Fits, AreRight, AreRightInputs}
+use Rattle.app_core.specs.Inputs.{AreRight, AreRightInputs}
 use Rattle.app_core.specs.Effects.{IsRightEffect, IsSpawnedWithNeeds, IsSpawn}
 use Rattle.app_core.specs.Outlines.{IsDueOnce, IsNeededOnce, IsNeededNever, IsSeenToOnce, GivesOnly, NeedingRunsAt, Names, Touches}
 use Rattle.small_app.specs.declared.unit.Unit.{Unit}
 use Rattle.small_app.specs.declared.unit.Unit.TheVariants.{Fill, Leaf, Sum, Clear, Read, Count, Total}
-use Rattle.small_app.specs.Small.{kinds, first_result, leaf_future, last_result, read_future, count_future, result_of, leaf_entry, leaf_value, label_of, due_of, needs_of, reads_of, counts_of, IsUnit, home_rule_of, home_of, kept_at, entry_home_of, starting_of, step_of, IsRightValue, IsRightCell, IsRightSize, told, MayDo, MayRead, MayCount}
+use Rattle.small_app.specs.Small.{kinds, first_result, leaf_future, last_result, read_future, count_future, result_of, leaf_entry, label_of, due_of, needs_of, reads_of, counts_of, IsUnit, home_rule_of, home_of, kept_at, entry_home_of, starting_of, step_of, IsRightValue, IsRightCell, IsRightSize, told, MayDo, MayRead, MayCount}
 
 -- commands
 
@@ -203,7 +203,7 @@ few_effects Total given = omega arith
 
 pub spawns_have_their_needs : (unit : Unit) (given : Given ℕ ℕ) → AllByRecursion (IsSpawnedWithNeeds {U = Unit} {V = ℕ} {C = ℕ} needs_of) (step_of unit given)
 spawns_have_their_needs Fill given = (refl, (refl, ((refl, filled _ _), tt)))
-spawns_have_their_needs (Leaf right value) given = (tt, (tt, tt))
+spawns_have_their_needs (Leaf right value) given = search rules
 spawns_have_their_needs Sum given = (refl, (tt, tt))
 spawns_have_their_needs Clear given = (tt, tt)
 spawns_have_their_needs Read given = (tt, tt)
@@ -212,7 +212,7 @@ spawns_have_their_needs Total given = (tt, tt)
 
 pub needing_spawns_stay : (ranks : ℕ) (unit : Unit) (given : Given ℕ ℕ) → AllByRecursion (NeedingRunsAt (home_of unit ranks)) (told ranks (step_of unit given))
 needing_spawns_stay ranks Fill given = ((λ some. absurd (some refl)), ((λ some. absurd (some refl)), ((λ _. refl), tt)))
-needing_spawns_stay ranks (Leaf right value) given = (tt, (tt, tt))
+needing_spawns_stay ranks (Leaf right value) given = search rules
 needing_spawns_stay ranks Sum given = ((λ some. absurd (some refl)), (tt, tt))
 needing_spawns_stay ranks Clear given = (tt, tt)
 needing_spawns_stay ranks Read given = (tt, tt)
