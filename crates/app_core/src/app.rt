@@ -159,71 +159,93 @@ pub trait App: Facts + Sync {
     ghost result_of_work: { (app : Self) (command : ℕ) → IsCommand (Self.kinds_of app) command
         → (IsSome (result_of app command) ↔ IsWork (Self.kinds_of app) command) };
 
-    ghost few_starts: { (app : Self) (command ranks : ℕ) → IsCommand (Self.kinds_of app) command → IsRankCount ranks
+    ghost few_starts: { (app : Self) (command ranks : ℕ)
+        → IsCommand (Self.kinds_of app) command → IsRankCount ranks
         → length (starting_of app command ranks) ≤ 2 ^ 16 };
 
-    ghost starts_are_spawns: { (app : Self) (command ranks : ℕ) → IsWork (Self.kinds_of app) command → IsRankCount ranks
+    ghost starts_are_spawns: { (app : Self) (command ranks : ℕ)
+        → IsWork (Self.kinds_of app) command → IsRankCount ranks
         → AllByRecursion IsSpawn (starting_of app command ranks) };
 
     /// Each unit that the starts spawn is one of the application.
-    ghost starts_are_right: { (app : Self) (command ranks : ℕ) → IsCommand (Self.kinds_of app) command → IsRankCount ranks
+    ghost starts_are_right: { (app : Self) (command ranks : ℕ)
+        → IsCommand (Self.kinds_of app) command → IsRankCount ranks
         → AllByRecursion (IsRightEffect (right_value app) (right_cell app) (is_unit app)) (starting_of app command ranks) };
 
     /// The starts spawn each unit with just its needs, in their order.
-    ghost starts_have_their_needs: { (app : Self) (command ranks : ℕ) → IsCommand (Self.kinds_of app) command → IsRankCount ranks
+    ghost starts_have_their_needs: { (app : Self) (command ranks : ℕ)
+        → IsCommand (Self.kinds_of app) command → IsRankCount ranks
         → AllByRecursion (IsSpawnedWithNeeds (needs_of app)) (starting_of app command ranks) };
 
     /// A start with needs runs at rank 0.
-    ghost needing_starts_run_at_first: { (app : Self) (command ranks : ℕ) → IsCommand (Self.kinds_of app) command → IsRankCount ranks
-        → AllByRecursion (NeedingRunsAt 0) (outlines (label_of app) (due_of app) (home_of app) (kept_at app) ranks (starting_of app command ranks)) };
+    ghost starts_with_needs_run_at_zero: { (app : Self) (command ranks : ℕ)
+        → IsCommand (Self.kinds_of app) command → IsRankCount ranks
+        → AllByRecursion (NeedingRunsAt 0) (outlines (label_of app) (due_of app) (home_of app) (kept_at app)
+        ranks (starting_of app command ranks)) };
 
     /// A future that the starts bring up has the number of the command.
-    ghost starts_name_their_command: { (app : Self) (command ranks : ℕ) (future : Name) → IsCommand (Self.kinds_of app) command → IsRankCount ranks
-        → Names (outlines (label_of app) (due_of app) (home_of app) (kept_at app) ranks (starting_of app command ranks)) future
+    ghost starts_name_their_command: { (app : Self) (command ranks : ℕ) (future : Name)
+        → IsCommand (Self.kinds_of app) command → IsRankCount ranks
+        → Names (outlines (label_of app) (due_of app) (home_of app) (kept_at app)
+        ranks (starting_of app command ranks)) future
         → future.command ≡ command };
 
     /// A future that the starts bring up is the due of exactly one of them.
-    ghost starts_have_a_due_once: { (app : Self) (command ranks : ℕ) (future : Name) → IsCommand (Self.kinds_of app) command → IsRankCount ranks
-        → Names (outlines (label_of app) (due_of app) (home_of app) (kept_at app) ranks (starting_of app command ranks)) future
-        → IsDueOnce future (outlines (label_of app) (due_of app) (home_of app) (kept_at app) ranks (starting_of app command ranks)) };
+    ghost starts_have_a_due_once: { (app : Self) (command ranks : ℕ) (future : Name)
+        → IsCommand (Self.kinds_of app) command → IsRankCount ranks
+        → Names (outlines (label_of app) (due_of app) (home_of app) (kept_at app)
+        ranks (starting_of app command ranks)) future
+        → IsDueOnce future (outlines (label_of app) (due_of app) (home_of app) (kept_at app)
+        ranks (starting_of app command ranks)) };
 
     /// A future that the starts bring up, other than the command's result, is needed by exactly one of them.
-    ghost starts_need_others_once: { (app : Self) (command ranks : ℕ) (future : Name) → IsCommand (Self.kinds_of app) command → IsRankCount ranks
-        → Names (outlines (label_of app) (due_of app) (home_of app) (kept_at app) ranks (starting_of app command ranks)) future
+    ghost starts_need_others_once: { (app : Self) (command ranks : ℕ) (future : Name)
+        → IsCommand (Self.kinds_of app) command → IsRankCount ranks
+        → Names (outlines (label_of app) (due_of app) (home_of app) (kept_at app)
+        ranks (starting_of app command ranks)) future
         → result_of app command ≢ Some future
-        → IsNeededOnce future (outlines (label_of app) (due_of app) (home_of app) (kept_at app) ranks (starting_of app command ranks)) };
+        → IsNeededOnce future (outlines (label_of app) (due_of app) (home_of app) (kept_at app)
+        ranks (starting_of app command ranks)) };
 
     /// None of the starts needs the command's result.
-    ghost starts_never_need_the_result: { (app : Self) (command ranks : ℕ) → IsCommand (Self.kinds_of app) command → IsRankCount ranks
-        → IfSome (result_of app command) (λ future. IsNeededNever future (outlines (label_of app) (due_of app) (home_of app) (kept_at app) ranks (starting_of app command ranks))) };
+    ghost starts_never_need_the_result: { (app : Self) (command ranks : ℕ)
+        → IsCommand (Self.kinds_of app) command → IsRankCount ranks
+        → IfSome (result_of app command) (λ future. IsNeededNever future (outlines (label_of app) (due_of app) (home_of app) (kept_at app)
+        ranks (starting_of app command ranks))) };
 
     // Units.
 
     /// Units with one label have one due.
-    ghost label_tells_due: { (app : Self) (unit other : Self.Unit) → is_unit app unit → is_unit app other
+    ghost label_tells_due: { (app : Self) (unit other : Self.Unit)
+        → is_unit app unit → is_unit app other
         → label_of app unit ≡ label_of app other → due_of app unit ≡ due_of app other };
 
     /// Units with one label have one home.
-    ghost label_tells_home: { (app : Self) (unit other : Self.Unit) (ranks : ℕ) → is_unit app unit → is_unit app other → IsRankCount ranks
+    ghost label_tells_home: { (app : Self) (unit other : Self.Unit) (ranks : ℕ)
+        → is_unit app unit → is_unit app other → IsRankCount ranks
         → label_of app unit ≡ label_of app other → home_of app unit ranks ≡ home_of app other ranks };
 
-    ghost home_below: { (app : Self) (unit : Self.Unit) (ranks : ℕ) → IsRankCount ranks → home_of app unit ranks < ranks };
+    ghost home_below: { (app : Self) (unit : Self.Unit) (ranks : ℕ)
+        → IsRankCount ranks → home_of app unit ranks < ranks };
 
     /// A unit runs at the rank that the application's rule names, and at rank 0 where it names none below `ranks`.
     ghost home_by_rule: { (app : Self) (unit : Self.Unit) (ranks : ℕ) → IsRankCount ranks
         → home_of app unit ranks ≡ rank_within ranks (home_rule_of app unit ranks) };
 
-    ghost future_home_below: { (app : Self) (future : Name) (ranks : ℕ) → IsRankCount ranks → kept_at app future ranks < ranks };
+    ghost future_home_below: { (app : Self) (future : Name) (ranks : ℕ)
+        → IsRankCount ranks → kept_at app future ranks < ranks };
 
     /// A future is kept at the rank that the application's rule names, and at rank 0 where it names none below `ranks`.
     ghost future_home_by_rule: { (app : Self) (future : Name) (ranks : ℕ) → IsRankCount ranks
         → kept_at app future ranks ≡ rank_within ranks (kept_rule_of app future ranks) };
 
     /// A future is kept where the unit that needs it runs.
-    ghost needs_are_kept_at_home: { (app : Self) (unit : Self.Unit) (future : Name) (ranks : ℕ) → is_unit app unit → IsRankCount ranks
+    ghost needs_are_kept_at_home: { (app : Self) (unit : Self.Unit) (future : Name) (ranks : ℕ)
+        → is_unit app unit → IsRankCount ranks
         → Contains (needs_of app unit) future → kept_at app future ranks ≡ home_of app unit ranks };
 
-    ghost few_reads: { (app : Self) (unit : Self.Unit) → is_unit app unit → length (reads_of app unit) ≤ 16 };
+    ghost few_reads: { (app : Self) (unit : Self.Unit)
+        → is_unit app unit → length (reads_of app unit) ≤ 16 };
 
     // Steps, on whatever inputs fit the unit.
 
@@ -237,53 +259,64 @@ pub trait App: Facts + Sync {
         → AllByRecursion (IsSpawnedWithNeeds (needs_of app)) (step_of app unit given) };
 
     /// A unit with needs runs where the unit that spawns it runs.
-    ghost needing_spawns_stay: { (app : Self) (unit : Self.Unit) (given : Given Self.Value Self.Cell) (ranks : ℕ)
+    ghost spawns_with_needs_stay: { (app : Self) (unit : Self.Unit) (given : Given Self.Value Self.Cell) (ranks : ℕ)
         → is_unit app unit → Fits (needs_of app unit) (reads_of app unit) given → IsRankCount ranks
-        → AllByRecursion (NeedingRunsAt (home_of app unit ranks)) (outlines (label_of app) (due_of app) (home_of app) (kept_at app) ranks (step_of app unit given)) };
+        → AllByRecursion (NeedingRunsAt (home_of app unit ranks)) (outlines (label_of app) (due_of app) (home_of app) (kept_at app)
+        ranks (step_of app unit given)) };
 
     /// A unit with a due gives it once, or hands it to exactly one unit that it spawns.
     ghost due_is_seen_to_once: { (app : Self) (unit : Self.Unit) (given : Given Self.Value Self.Cell)
         → is_unit app unit → Fits (needs_of app unit) (reads_of app unit) given
-        → IfSome (due_of app unit) (λ due. IsSeenToOnce due (outlines (label_of app) (due_of app) (home_of app) (kept_at app) (Self.ranks_of app) (step_of app unit given))) };
+        → IfSome (due_of app unit) (λ due. IsSeenToOnce due (outlines (label_of app) (due_of app) (home_of app) (kept_at app)
+        (Self.ranks_of app) (step_of app unit given))) };
 
     /// No unit that a step spawns needs the due of the step's unit.
     ghost due_is_needed_never: { (app : Self) (unit : Self.Unit) (given : Given Self.Value Self.Cell)
         → is_unit app unit → Fits (needs_of app unit) (reads_of app unit) given
-        → IfSome (due_of app unit) (λ due. IsNeededNever due (outlines (label_of app) (due_of app) (home_of app) (kept_at app) (Self.ranks_of app) (step_of app unit given))) };
+        → IfSome (due_of app unit) (λ due. IsNeededNever due (outlines (label_of app) (due_of app) (home_of app) (kept_at app)
+        (Self.ranks_of app) (step_of app unit given))) };
 
     /// A step gives nothing but the due of its unit.
     ghost only_the_due_is_given: { (app : Self) (unit : Self.Unit) (given : Given Self.Value Self.Cell)
         → is_unit app unit → Fits (needs_of app unit) (reads_of app unit) given
-        → AllByRecursion (GivesOnly (due_of app unit)) (outlines (label_of app) (due_of app) (home_of app) (kept_at app) (Self.ranks_of app) (step_of app unit given)) };
+        → AllByRecursion (GivesOnly (due_of app unit)) (outlines (label_of app) (due_of app) (home_of app) (kept_at app)
+        (Self.ranks_of app) (step_of app unit given)) };
 
     /// A future that a step brings up is the due of exactly one unit that it spawns.
     ghost spawns_have_a_due_once: { (app : Self) (unit : Self.Unit) (given : Given Self.Value Self.Cell) (future : Name)
         → is_unit app unit → Fits (needs_of app unit) (reads_of app unit) given
-        → Names (outlines (label_of app) (due_of app) (home_of app) (kept_at app) (Self.ranks_of app) (step_of app unit given)) future
+        → Names (outlines (label_of app) (due_of app) (home_of app) (kept_at app)
+        (Self.ranks_of app) (step_of app unit given)) future
         → due_of app unit ≢ Some future
-        → IsDueOnce future (outlines (label_of app) (due_of app) (home_of app) (kept_at app) (Self.ranks_of app) (step_of app unit given)) };
+        → IsDueOnce future (outlines (label_of app) (due_of app) (home_of app) (kept_at app)
+        (Self.ranks_of app) (step_of app unit given)) };
 
     /// A future that a step brings up is needed by exactly one unit that it spawns.
     ghost spawns_need_others_once: { (app : Self) (unit : Self.Unit) (given : Given Self.Value Self.Cell) (future : Name)
         → is_unit app unit → Fits (needs_of app unit) (reads_of app unit) given
-        → Names (outlines (label_of app) (due_of app) (home_of app) (kept_at app) (Self.ranks_of app) (step_of app unit given)) future
+        → Names (outlines (label_of app) (due_of app) (home_of app) (kept_at app)
+        (Self.ranks_of app) (step_of app unit given)) future
         → due_of app unit ≢ Some future
-        → IsNeededOnce future (outlines (label_of app) (due_of app) (home_of app) (kept_at app) (Self.ranks_of app) (step_of app unit given)) };
+        → IsNeededOnce future (outlines (label_of app) (due_of app) (home_of app) (kept_at app)
+        (Self.ranks_of app) (step_of app unit given)) };
 
     /// Any two units that put or erase one entry, on whatever inputs, run at one rank.
     ghost entry_has_one_home: { (app : Self) (unit other : Self.Unit) (given more : Given Self.Value Self.Cell) (entry : Entry) (ranks : ℕ)
         → is_unit app unit → Fits (needs_of app unit) (reads_of app unit) given
         → is_unit app other → Fits (needs_of app other) (reads_of app other) more
         → IsRankCount ranks
-        → Touches (outlines (label_of app) (due_of app) (home_of app) (kept_at app) ranks (step_of app unit given)) entry
-        → Touches (outlines (label_of app) (due_of app) (home_of app) (kept_at app) ranks (step_of app other more)) entry
+        → Touches (outlines (label_of app) (due_of app) (home_of app) (kept_at app)
+        ranks (step_of app unit given)) entry
+        → Touches (outlines (label_of app) (due_of app) (home_of app) (kept_at app)
+        ranks (step_of app other more)) entry
         → home_of app unit ranks ≡ home_of app other ranks };
 
     /// On right inputs each give has a right value, each put a right cell, and each spawned unit is one of the
     /// application.
     ghost step_is_right: { (app : Self) (unit : Self.Unit) (given : Given Self.Value Self.Cell)
         → is_unit app unit
-        → AreRightInputs (right_value app) (right_cell app) (Self.right_size app) (needs_of app unit) (reads_of app unit) (counts_of app unit) (home_of app unit (Self.ranks_of app)) given
+        → AreRightInputs (right_value app) (right_cell app) (Self.right_size app)
+        (needs_of app unit) (reads_of app unit) (counts_of app unit) (home_of app unit (Self.ranks_of app)) given
         → AllByRecursion (IsRightEffect (right_value app) (right_cell app) (is_unit app)) (step_of app unit given) };
 
     // What the facts tell.
@@ -291,19 +324,24 @@ pub trait App: Facts + Sync {
     ghost made_for_ranks: { (app : Self) → IsRankCount (Self.ranks_of app) };
 
     ghost starts_are_told: { (app : Self) (command : ℕ) → IsCommand (Self.kinds_of app) command
-        → Self.starts_of app command ≡ outlines (label_of app) (due_of app) (home_of app) (kept_at app) (Self.ranks_of app) (starting_of app command (Self.ranks_of app)) };
+        → Self.starts_of app command ≡ outlines (label_of app) (due_of app) (home_of app) (kept_at app)
+        (Self.ranks_of app) (starting_of app command (Self.ranks_of app)) };
 
     ghost steps_are_told: { (app : Self) (unit : Self.Unit) (given : Given Self.Value Self.Cell)
         → is_unit app unit
-        → AreRightInputs (right_value app) (right_cell app) (Self.right_size app) (needs_of app unit) (reads_of app unit) (counts_of app unit) (home_of app unit (Self.ranks_of app)) given
-        → Self.may_do app (label_of app unit) (outlines (label_of app) (due_of app) (home_of app) (kept_at app) (Self.ranks_of app) (step_of app unit given)) };
+        → AreRightInputs (right_value app) (right_cell app) (Self.right_size app)
+        (needs_of app unit) (reads_of app unit) (counts_of app unit) (home_of app unit (Self.ranks_of app)) given
+        → Self.may_do app (label_of app unit) (outlines (label_of app) (due_of app) (home_of app) (kept_at app)
+        (Self.ranks_of app) (step_of app unit given)) };
 
-    ghost futures_are_told: { (app : Self) (future : Name) → Self.future_home_of app future ≡ kept_at app future (Self.ranks_of app) };
+    ghost futures_are_told: { (app : Self) (future : Name)
+        → Self.future_home_of app future ≡ kept_at app future (Self.ranks_of app) };
 
     ghost reads_are_told: { (app : Self) (unit : Self.Unit) (entry : Entry) → is_unit app unit
         → Contains (reads_of app unit) entry → Self.may_read app (label_of app unit) entry };
 
-    ghost counts_are_told: { (app : Self) (unit : Self.Unit) → is_unit app unit → IfSome (counts_of app unit) (λ version. Self.may_count app (label_of app unit) version) };
+    ghost counts_are_told: { (app : Self) (unit : Self.Unit)
+        → is_unit app unit → IfSome (counts_of app unit) (λ version. Self.may_count app (label_of app unit) version) };
 
     /// A unit reads entries that lie at its home.
     ghost reads_are_at_home: { (app : Self) (unit : Self.Unit) (entry : Entry) → is_unit app unit
@@ -312,6 +350,7 @@ pub trait App: Facts + Sync {
     /// A unit puts and erases entries that lie at its home.
     ghost writes_are_at_home: { (app : Self) (unit : Self.Unit) (given : Given Self.Value Self.Cell) (entry : Entry)
         → is_unit app unit → Fits (needs_of app unit) (reads_of app unit) given
-        → Touches (outlines (label_of app) (due_of app) (home_of app) (kept_at app) (Self.ranks_of app) (step_of app unit given)) entry
+        → Touches (outlines (label_of app) (due_of app) (home_of app) (kept_at app)
+        (Self.ranks_of app) (step_of app unit given)) entry
         → Self.entry_home_of app entry ≡ home_of app unit (Self.ranks_of app) };
 }

@@ -37,7 +37,8 @@ pub fn rules_give_ranks()
 /// Inputs that are right for a unit fit it: they have a value for each need, and a cell for each entry that it reads.
 pub fn right_inputs_fit<A: App>()
     ensures { (app : A) (unit : A.Unit) (given : Given A.Value A.Cell)
-        → AreRightInputs (A.right_value app) (A.right_cell app) (A.right_size app) (A.needs_of app unit) (A.reads_of app unit) (A.counts_of app unit) (A.home_of app unit (A.ranks_of app)) given
+        → AreRightInputs (A.right_value app) (A.right_cell app) (A.right_size app)
+        (A.needs_of app unit) (A.reads_of app unit) (A.counts_of app unit) (A.home_of app unit (A.ranks_of app)) given
         → Fits (A.needs_of app unit) (A.reads_of app unit) given }
 {}
 
@@ -45,11 +46,13 @@ pub fn right_inputs_fit<A: App>()
 pub fn spawns_of_a_step_are_apart<A: App>()
     ensures { (app : A) (unit : A.Unit) (given : Given A.Value A.Cell)
         → A.is_unit app unit → Fits (A.needs_of app unit) (A.reads_of app unit) given
-        → AreApart (outlines (A.label_of app) (A.due_of app) (A.home_of app) (A.kept_at app) (A.ranks_of app) (A.step_of app unit given)) }
+        → AreApart (outlines (A.label_of app) (A.due_of app) (A.home_of app) (A.kept_at app)
+        (A.ranks_of app) (A.step_of app unit given)) }
 {}
 
 /// No two starts of a command have one due or need one future, and what one needs is the due of one.
 pub fn starts_of_a_command_are_apart<A: App>()
     ensures { (app : A) (command ranks : ℕ) → IsCommand (A.kinds_of app) command → IsRankCount ranks
-        → AreApart (outlines (A.label_of app) (A.due_of app) (A.home_of app) (A.kept_at app) ranks (A.starting_of app command ranks)) }
+        → AreApart (outlines (A.label_of app) (A.due_of app) (A.home_of app) (A.kept_at app)
+        ranks (A.starting_of app command ranks)) }
 {}

@@ -56,8 +56,8 @@ first_rank ranks = either (nat_lt 0 ranks) 0
     either true n = refl
     either false n = refl
 
-pub needing_starts_run_at_first : (ranks command : ℕ) → IsCommand kinds command → AllByRecursion (NeedingRunsAt 0) (told ranks (starting_of command))
-needing_starts_run_at_first ranks = by_command (λ command. AllByRecursion (NeedingRunsAt 0) (told ranks (starting_of command)))
+pub starts_with_needs_run_at_zero : (ranks command : ℕ) → IsCommand kinds command → AllByRecursion (NeedingRunsAt 0) (told ranks (starting_of command))
+starts_with_needs_run_at_zero ranks = by_command (λ command. AllByRecursion (NeedingRunsAt 0) (told ranks (starting_of command)))
     ((λ some. absurd (some refl)), tt) tt ((λ some. absurd (some refl)), ((λ some. absurd (some refl)), ((λ _. first_rank ranks), tt)))
 
 pub starts_name_their_command : (ranks command : ℕ) (future : Label) → IsCommand kinds command → Names (told ranks (starting_of command)) future → future.command ≡ command
@@ -210,14 +210,14 @@ spawns_have_their_needs Read given = (tt, tt)
 spawns_have_their_needs Count given = (tt, tt)
 spawns_have_their_needs Total given = (tt, tt)
 
-pub needing_spawns_stay : (ranks : ℕ) (unit : Unit) (given : Given ℕ ℕ) → AllByRecursion (NeedingRunsAt (home_of unit ranks)) (told ranks (step_of unit given))
-needing_spawns_stay ranks Fill given = ((λ some. absurd (some refl)), ((λ some. absurd (some refl)), ((λ _. refl), tt)))
-needing_spawns_stay ranks (Leaf right value) given = search rules
-needing_spawns_stay ranks Sum given = ((λ some. absurd (some refl)), (tt, tt))
-needing_spawns_stay ranks Clear given = (tt, tt)
-needing_spawns_stay ranks Read given = (tt, tt)
-needing_spawns_stay ranks Count given = (tt, tt)
-needing_spawns_stay ranks Total given = (tt, tt)
+pub spawns_with_needs_stay : (ranks : ℕ) (unit : Unit) (given : Given ℕ ℕ) → AllByRecursion (NeedingRunsAt (home_of unit ranks)) (told ranks (step_of unit given))
+spawns_with_needs_stay ranks Fill given = ((λ some. absurd (some refl)), ((λ some. absurd (some refl)), ((λ _. refl), tt)))
+spawns_with_needs_stay ranks (Leaf right value) given = search rules
+spawns_with_needs_stay ranks Sum given = ((λ some. absurd (some refl)), (tt, tt))
+spawns_with_needs_stay ranks Clear given = (tt, tt)
+spawns_with_needs_stay ranks Read given = (tt, tt)
+spawns_with_needs_stay ranks Count given = (tt, tt)
+spawns_with_needs_stay ranks Total given = (tt, tt)
 
 pub due_is_seen_to_once : (ranks : ℕ) (unit : Unit) (given : Given ℕ ℕ) → IfSome (due_of unit) (λ due. IsSeenToOnce due (told ranks (step_of unit given)))
 due_is_seen_to_once ranks Fill given = refl

@@ -153,7 +153,7 @@ impl App for SmallApp {
 
     ghost starts_have_their_needs = { λ _ command _ is _. laws.starts_have_their_needs command is };
 
-    ghost needing_starts_run_at_first = { λ _ command ranks is _. laws.needing_starts_run_at_first ranks command is };
+    ghost starts_with_needs_run_at_zero = { λ _ command ranks is _. laws.starts_with_needs_run_at_zero ranks command is };
 
     ghost starts_name_their_command = { λ _ command ranks future is _ names. laws.starts_name_their_command ranks command future is names };
 
@@ -183,7 +183,7 @@ impl App for SmallApp {
 
     ghost spawns_have_their_needs = { λ _ unit given _ _. laws.spawns_have_their_needs unit given };
 
-    ghost needing_spawns_stay = { λ _ unit given ranks _ _ _. laws.needing_spawns_stay ranks unit given };
+    ghost spawns_with_needs_stay = { λ _ unit given ranks _ _ _. laws.spawns_with_needs_stay ranks unit given };
 
     ghost due_is_seen_to_once = { λ app unit given _ _. laws.due_is_seen_to_once app.ranks unit given };
 

@@ -95,7 +95,8 @@ pub fn step_and_look<A: App, R: Threads + Wait + Sync>(
     requires unit { A.is_unit app.now unit }
     requires values { length inputs.values ≡ length (A.needs_of app.now unit) }
     requires cells { length inputs.cells ≡ length (A.reads_of app.now unit) }
-    requires right { AreRightInputs (A.right_value app.now) (A.right_cell app.now) (A.right_size app.now) (A.needs_of app.now unit) (A.reads_of app.now unit) (A.counts_of app.now unit) (A.home_of app.now unit (A.ranks_of app.now)) inputs }
+    requires right { AreRightInputs (A.right_value app.now) (A.right_cell app.now) (A.right_size app.now)
+        (A.needs_of app.now unit) (A.reads_of app.now unit) (A.counts_of app.now unit) (A.home_of app.now unit (A.ranks_of app.now)) inputs }
     ensures { IfOk result (λ o. IfSome o (λ v. A.right_value app.now future v)) }
 {
     let effects = app.step(alloc, unit, inputs)?;
