@@ -41,3 +41,13 @@ impl<T: Drop> From<AllocFailed<T>> for OutOfMemory {
 pub struct Twice<T> {
     pub value: T,
 }
+
+impl<T> fmt::Display for Twice<T> {
+    ghost output = { λ _. Some (codes "the place was filled before") };
+
+    fn fmt<W: fmt::Write>(&self, f: &mut fmt::Formatter<W>) -> fmt::Result {
+        write!(f, "the place was filled before")
+    }
+}
+
+impl<T: fmt::Debug + Drop> Error for Twice<T> {}

@@ -44,9 +44,12 @@ fn thirty_two_places_have_room(rt: HostRuntime) -> Result<(), Fail> {
 }
 
 #[test]
-fn a_want_of_memory_has_a_text(rt: HostRuntime) -> Result<(), Fail> {
+fn refusals_have_texts(rt: HostRuntime) -> Result<(), Fail> {
     let refused = OutOfMemory::from(AllocError);
     assert_eq!(rt; OutOfMemory::from(AllocFailed { value: 7u8 }), refused);
     assert_eq!(rt; refused.to_string(rt.alloc())?.as_str(), "out of memory");
+    let twice = Twice { value: 7u8 };
+    let text = twice.to_string(rt.alloc())?;
+    assert_eq!(rt; text.as_str(), "the place was filled before");
     Ok(())
 }

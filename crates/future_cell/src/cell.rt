@@ -11,20 +11,25 @@ use crate::notes::CellNote;
 use crate::pending::{NotAdded, Pending};
 use once_cell::race::OnceBox;
 use std::alloc::Global;
+use std::fmt::Debug;
 use std::marker::Model;
 use std::sync::{Mutex, Wait};
+use thiserror::Error;
 
 /// Why a value wasn't assigned. Each hands it back.
-#[derive(Debug, PartialEq, Eq, Drop)]
+#[derive(Debug, PartialEq, Eq, Drop, Error)]
+#[error_bound(T: Debug + Drop)]
 pub enum AssignError<T> {
     /// The future has a value.
+    #[error("the future has a value")]
     Already(T),
     /// There is no memory for the value.
+    #[error("out of memory")]
     OutOfMemory(T),
 }
 
 /// A future: a value that is assigned at most once, and the callbacks that wait for it. Contracts see whose it is, and the name
-/// that it shares with its notes.
+/// that it shares with its notes. Each call that takes a note asks for one of this future, which [`FutureCell::note`] makes.
 #[derive(Drop)]
 pub struct FutureCell<T: Drop> {
     id: FutureId,

@@ -11,8 +11,8 @@ use thiserror::Error;
 /// Why a callback wasn't added. Each hands it back.
 #[derive(Clone, Copy, Debug, PartialEq, Eq, Error)]
 pub enum NotAdded {
-    /// The future has its value: what is to be done can be done at once.
-    #[error("the future has its value")]
+    /// The future has a value: what is to be done can be done at once.
+    #[error("the future has a value")]
     Assigned(Callback),
     /// There is no memory for one more callback.
     #[error("out of memory")]

@@ -29,7 +29,7 @@ fn first_value_stays(rt: HostRuntime) {
     let first = cell.assign(&rt, &mut note, 7u64);
     assert!(rt; first.is_ok_and(|callbacks| callbacks.as_slice().is_empty()));
     let second = cell.assign(&rt, &mut note, 8);
-    assert!(rt; second.is_err_and(|e| e == AssignError::Already(8)));
+    assert_eq!(rt; second.err(), Some(AssignError::Already(8)));
     assert_eq!(rt; cell.get(&mut note).copied(), Some(7));
     let mut other = cell.note();
     assert_eq!(rt; cell.get(&mut other).copied(), Some(7));
@@ -71,6 +71,22 @@ fn callbacks_come_out_in_order(rt: HostRuntime) -> Result<(), Fail> {
         pending.add(callbacks[0]),
         Err(NotAdded::Assigned(callbacks[0]))
     );
+    Ok(())
+}
+
+#[test]
+fn refusals_have_texts(rt: HostRuntime) -> Result<(), Fail> {
+    let callback = Callback::Local(ID);
+    let not_added = [
+        NotAdded::Assigned(callback),
+        NotAdded::OutOfMemory(callback),
+    ];
+    let errors = [AssignError::Already(8u8), AssignError::OutOfMemory(8)];
+    let texts = ["the future has a value", "out of memory"];
+    for ((refused, error), text) in not_added.iter().zip(errors.iter()).zip(texts) {
+        assert_eq!(rt; refused.to_string(rt.alloc())?.as_str(), text);
+        assert_eq!(rt; error.to_string(rt.alloc())?.as_str(), text);
+    }
     Ok(())
 }
 
