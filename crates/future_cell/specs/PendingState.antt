@@ -13,8 +13,3 @@ pub record PendingState : Type 0 where
 abbrev pub refused_callback : NotAdded → Callback
 refused_callback (Assigned callback) = callback
 refused_callback (OutOfMemory callback) = callback
-
--- the refusal says that the future has its value
-abbrev pub IsAssigned : NotAdded → Type 0
-IsAssigned (Assigned callback) = Unit {0}
-IsAssigned (OutOfMemory callback) = ⊥

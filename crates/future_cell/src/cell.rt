@@ -1,9 +1,9 @@
 //! A value that is assigned at most once, and what waits for it.
-ghost use Rattle.std.specs.Prelude.{◌≡◌, ◌↔◌, [], None, Some, true, IfErr, IfOk, IsSome, IsTrue, OnErr, OnOk};
+ghost use Rattle.std.specs.Prelude.{◌≡◌, ◌↔◌, [], Err, None, Some, true, IfErr, IfOk, IsSome, IsTrue, OnErr, OnOk};
 ghost use Rattle.std.specs.Option.{option_copied};
 ghost use Rattle.once_cell.specs.Once.{cell_name};
 ghost use Rattle.future_cell.specs.CellState.{StillKnows};
-ghost use Rattle.future_cell.specs.PendingState.{IsAssigned, refused_callback};
+ghost use Rattle.future_cell.specs.PendingState.{refused_callback};
 ghost use Rattle.future_cell.specs.Assigning.{IsAlready, refused_value};
 
 use crate::callback::{Callback, Callbacks, FutureId};
@@ -96,8 +96,8 @@ impl<T: Drop> FutureCell<T> {
     }
 
     /// Gives the future its value, and hands out the callbacks that were added so far, in order; no later one is added. It may
-    /// wait for other threads. `Already` only where the future has a value, which the note then knows; `OutOfMemory` where there
-    /// is no memory for it. Each hands the value back.
+    /// wait for other threads. `Already` where the future has a value: of the two refusals, exactly where the note knows one as the
+    /// call ends. `OutOfMemory` where there is no memory for the value. Each hands the value back.
     pub fn assign<R: Wait>(
         &self,
         rt: &R,
@@ -107,11 +107,14 @@ impl<T: Drop> FutureCell<T> {
         requires { note.old.cell ≡ self.now.cell }
         ensures assigned { OnOk result (note.new.known ≡ Some value) }
         ensures first { OnOk result (note.old.known ≡ None) }
-        ensures already { IfErr result (λ e. IsAlready e → IsSome note.new.known) }
+        ensures already { IfErr result (λ e. IsAlready e ↔ IsSome note.new.known) }
         ensures back { IfErr result (λ e. refused_value e ≡ value) }
         ensures keeps { StillKnows note.old.known note.new.known }
         ensures cell { note.new.cell ≡ note.old.cell }
     {
+        if self.probe(note) {
+            return Err(AssignError::Already(value));
+        }
         let boxed = match Box::new(self.alloc, value) {
             Ok(boxed) => boxed,
             Err(refused) => return Err(AssignError::OutOfMemory(refused.value)),
@@ -123,9 +126,9 @@ impl<T: Drop> FutureCell<T> {
         }
     }
 
-    /// Adds a callback that is to be handed out when the future gets its value. It may wait for other threads. `Assigned` only
-    /// where the future has a value, which the note then knows; `OutOfMemory` where there is no memory for the callback. Each
-    /// hands it back.
+    /// Adds a callback, to be handed out when the future gets its value. It may wait for other threads. `Assigned` where the future
+    /// has a value: exactly where the note knows one as the call ends. `OutOfMemory` where there is no memory for the callback.
+    /// Each hands it back.
     pub fn on_assigned<R: Wait>(
         &self,
         rt: &R,
@@ -133,19 +136,20 @@ impl<T: Drop> FutureCell<T> {
         callback: Callback,
     ) -> Result<(), NotAdded>
         requires { note.old.cell ≡ self.now.cell }
-        ensures assigned { IfErr result (λ e. IsAssigned e → IsSome note.new.known) }
+        ensures added { OnOk result (note.new.known ≡ None) }
+        ensures assigned { (result ≡ Err (NotAdded.Assigned callback)) ↔ IsSome note.new.known }
         ensures back { IfErr result (λ e. refused_callback e ≡ callback) }
         ensures keeps { StillKnows note.old.known note.new.known }
         ensures cell { note.new.cell ≡ note.old.cell }
     {
-        // The state is closed after the value was set, so one round serves; only that no proof can say so.
         for _ in rt.forever() {
+            if self.probe(note) {
+                return Err(NotAdded::Assigned(callback));
+            }
             match self.pending.lock(rt).add(callback) {
-                Err(NotAdded::Assigned(_)) => {
-                    if self.probe(note) {
-                        return Err(NotAdded::Assigned(callback));
-                    }
-                }
+                // The value came after the look. It was set before the state was closed, so the next look finds it; only
+                // that no proof can say so.
+                Err(NotAdded::Assigned(_)) => {}
                 answer => return answer,
             }
         }
