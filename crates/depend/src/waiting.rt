@@ -32,12 +32,16 @@ impl<T> Model for Waiting<T> {
 
     ghost view = { λ w. w.places.items };
 
-    ghost invariant = { λ w. (vec_len w.places ≤ 32) × (w.empty ≡ empty_count w.places.items) × (w.values.items ≡ []) × (vec_len w.places ≤ vec_capacity w.values) };
+    ghost invariant = { λ w.
+        (vec_len w.places ≤ 32)
+        × (w.empty ≡ empty_count w.places.items)
+        × (w.values.items ≡ [])
+        × (vec_len w.places ≤ vec_capacity w.values) };
 }
 
 impl<T: Drop> Waiting<T> {
-    /// `needs` empty places, at most 32. `OutOfMemory` where no memory is left for them and for their values; no later
-    /// call takes any.
+    /// `needs` empty places, at most 32. `OutOfMemory` where no memory is left for them and for their values; no
+    /// later call takes any.
     pub fn new(alloc: Global, needs: u32) -> Result<Waiting<T>, OutOfMemory>
         requires { needs ≤ 32 }
         ensures { IfOk result (λ w. w ≡ replicate needs None) }
@@ -61,8 +65,8 @@ impl<T: Drop> Waiting<T> {
         self.places.len() as u32
     }
 
-    /// Fills the place `index`, from 0, with the value. `Twice` exactly where that place was filled: then all places stay, and
-    /// the value comes back.
+    /// Fills the place `index`, from 0, with the value. `Twice` exactly where that place was filled: then all places
+    /// stay, and the value comes back.
     pub fn learn(&mut self, index: u32, value: T) -> Result<Learned, Twice<T>>
         requires { index < length self.old }
         ensures filled { OnOk result (self.new ≡ slice_set self.old index (Some value)) }

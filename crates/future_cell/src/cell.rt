@@ -28,8 +28,9 @@ pub enum AssignError<T> {
     OutOfMemory(T),
 }
 
-/// A future: a value that is assigned at most once, and the callbacks that wait for it. Contracts see whose it is, and the name
-/// that it shares with its notes. Each call that takes a note asks for one of this future, which [`FutureCell::note`] makes.
+/// A future: a value that is assigned at most once, and the callbacks that wait for it. Contracts see whose it is,
+/// and the name that it shares with its notes. Each call that takes a note asks for one of this future, which
+/// [`FutureCell::note`] makes.
 #[derive(Drop)]
 pub struct FutureCell<T: Drop> {
     id: FutureId,
@@ -95,9 +96,10 @@ impl<T: Drop> FutureCell<T> {
         self.value.get_as(note)
     }
 
-    /// Gives the future its value, and hands out the callbacks that were added so far, in order; no later one is added. It may
-    /// wait for other threads. `Already` where the future has a value: of the two refusals, exactly where the note knows one as the
-    /// call ends. `OutOfMemory` where there is no memory for the value. Each hands the value back.
+    /// Gives the future its value, and hands out the callbacks that were added so far, in order; no later one is
+    /// added. It may wait for other threads. `Already` where the future has a value: of the two refusals, exactly
+    /// where the note knows one as the call ends. `OutOfMemory` where there is no memory for the value. Each hands
+    /// the value back.
     pub fn assign<R: Wait>(
         &self,
         rt: &R,
@@ -126,9 +128,9 @@ impl<T: Drop> FutureCell<T> {
         }
     }
 
-    /// Adds a callback, to be handed out when the future gets its value. It may wait for other threads. `Assigned` where the future
-    /// has a value: exactly where the note knows one as the call ends. `OutOfMemory` where there is no memory for the callback.
-    /// Each hands it back.
+    /// Adds a callback, to be handed out when the future gets its value. It may wait for other threads. `Assigned`
+    /// where the future has a value: exactly where the note knows one as the call ends. `OutOfMemory` where there is
+    /// no memory for the callback. Each hands it back.
     pub fn on_assigned<R: Wait>(
         &self,
         rt: &R,
@@ -147,8 +149,8 @@ impl<T: Drop> FutureCell<T> {
                 return Err(NotAdded::Assigned(callback));
             }
             match self.pending.lock(rt).add(callback) {
-                // The value came after the look. It was set before the state was closed, so the next look finds it; only
-                // that no proof can say so.
+                // The value came after the look. It was set before the state was closed, so the next look finds it;
+                // only that no proof can say so.
                 Err(NotAdded::Assigned(_)) => {}
                 answer => return answer,
             }
@@ -157,8 +159,8 @@ impl<T: Drop> FutureCell<T> {
     }
 }
 
-// Sets the value where it is the first, and then takes out what waits for it. The caller has the lock of `pending`, so that no
-// callback is added between the two.
+// Sets the value where it is the first, and then takes out what waits for it. The caller has the lock of `pending`,
+// so that no callback is added between the two.
 fn settle<T: Drop>(
     alloc: Global,
     cell: &OnceBox<T>,

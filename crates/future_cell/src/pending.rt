@@ -50,8 +50,8 @@ impl Pending {
         }
     }
 
-    /// Adds the callback last. `Assigned` exactly where the state is closed; `OutOfMemory` where there is no memory for it. Each
-    /// hands the callback back, and the state stays.
+    /// Adds the callback last. `Assigned` exactly where the state is closed; `OutOfMemory` where there is no memory
+    /// for it. Each hands the callback back, and the state stays.
     pub fn add(&mut self, callback: Callback) -> Result<(), NotAdded>
         ensures added { OnOk result (self.new.callbacks ≡ self.old.callbacks ++ callback ∷ []) }
         ensures open { OnOk result (self.new.closed ≡ false) }
@@ -68,8 +68,8 @@ impl Pending {
         Ok(())
     }
 
-    /// Hands out all callbacks, in order, and leaves the state empty and closed. None exactly where it was closed. It takes no
-    /// memory.
+    /// Hands out all callbacks, in order, and leaves the state empty and closed. None exactly where it was closed. It
+    /// takes no memory.
     pub fn close(&mut self) -> Option<Callbacks>
         ensures all { IfSome result (λ c. c ≡ self.old.callbacks) }
         ensures none { IsNone result ↔ IsTrue self.old.closed }
