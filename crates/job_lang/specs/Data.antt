@@ -1,5 +1,4 @@
 -- The plain data that a job of the code is.
-use Rattle.std.specs.Prelude.{List, [], ◌∷◌, ℕ}
 use Rattle.tree_model.specs.Commands.{Command}
 use Rattle.tree_model.specs.Commands.Command.{Project as ProjectCommand, Refine as RefineCommand, Compress as CompressCommand, Reconstruct as ReconstructCommand, Add as AddCommand, Mul as MulCommand, Inner as InnerCommand, Print as PrintCommand, Fence as FenceCommand}
 use Rattle.tree_model.specs.Nodes.{Form}

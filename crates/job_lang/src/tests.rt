@@ -151,56 +151,40 @@ fn project(alloc: Global, name: &[u8]) -> Result<Command, OutOfMemory> {
     })
 }
 
-fn add(alloc: Global, factor: i64) -> Result<Command, OutOfMemory> {
-    Ok(Command::Add {
-        name: text(alloc, b"f")?,
-        left_factor: factor,
-        left: text(alloc, b"f")?,
-        right_factor: -factor,
-        right: text(alloc, b"f")?,
-    })
-}
-
 fn compress(alloc: Global, name: &[u8]) -> Result<Command, OutOfMemory> {
     let name = text(alloc, name)?;
     Ok(Command::Compress { name })
 }
 
-// Whether commands make a job at depth 2.
-fn is_job(commands: Vec<Command>) -> bool {
-    Job::of_commands(2, commands).is_some()
+fn double(alloc: Global, factor: i64) -> Result<Command, OutOfMemory> {
+    Ok(Command::Add {
+        name: text(alloc, b"f")?,
+        left_factor: factor,
+        left: text(alloc, b"f")?,
+        right_factor: 0,
+        right: text(alloc, b"f")?,
+    })
+}
+
+// Whether a projection, `compress` of a name and a sum make a job at depth 2.
+fn is_job(alloc: Global, name: &[u8], factor: i64) -> Result<bool, OutOfMemory> {
+    let mut commands = Vec::new(alloc);
+    commands.push(project(alloc, b"f")?)?;
+    commands.push(compress(alloc, name)?)?;
+    commands.push(double(alloc, factor)?)?;
+    Ok(Job::of_commands(2, commands).is_some())
 }
 
 #[test]
 fn makes_jobs_of_commands(rt: HostRuntime) -> Result<(), Fail> {
-    let alloc = rt.alloc();
-    let commands = vec![in alloc;
-        project(alloc, b"f")?,
-        compress(alloc, b"f")?,
-        add(alloc, 1 << 20)?,
-    ]?;
-    assert!(rt; is_job(commands));
-    let too_large = vec![in alloc;
-        project(alloc, b"f")?,
-        compress(alloc, b"f")?,
-        add(alloc, (1 << 20) + 1)?,
-    ]?;
-    assert!(rt; !is_job(too_large));
-    let not_compressed = vec![in alloc; project(alloc, b"f")?, add(alloc, 1)?]?;
-    assert!(rt; !is_job(not_compressed));
-    let compressed_twice = vec![in alloc;
-        project(alloc, b"f")?,
-        compress(alloc, b"f")?,
-        compress(alloc, b"f")?,
-    ]?;
-    assert!(rt; !is_job(compressed_twice));
-    let unknown = vec![in alloc; project(alloc, b"f")?, compress(alloc, b"g")?]?;
-    assert!(rt; !is_job(unknown));
-    let no_name = vec![in alloc; project(alloc, b"F")?]?;
-    assert!(rt; !is_job(no_name));
-    let fence = vec![in alloc; Command::Fence]?;
-    assert!(rt; Job::of_commands(16, fence).is_some());
-    let too_deep = vec![in alloc; Command::Fence]?;
-    assert!(rt; Job::of_commands(17, too_deep).is_none());
+    let cases = [
+        (b"f", 1 << 20, true),
+        (b"f", (1 << 20) + 1, false),
+        (b"g", 1, false),
+        (b"F", 1, false),
+    ];
+    for (name, factor, want) in cases {
+        assert_eq!(rt; is_job(rt.alloc(), name, factor)?, want, "at {name:?}");
+    }
     Ok(())
 }
