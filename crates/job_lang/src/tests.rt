@@ -51,9 +51,9 @@ fn finds_the_header(rt: HostRuntime) {
         (b"\n\n", fault(3, 2)),
         (b"job 1 depth 16", Ok((16, 0))),
         (b"job 1 depth 17\n", fault(1, 2)),
-        (b"job 1 depth 2 \xff\n", fault(1, 2)),
+        (b"job 1 depth 2 \xff\n", fault(1, 1)),
         (b"# \xff\x00\xc3\x28\njob 1 depth 2\n#\xff", Ok((2, 0))),
-        (b"job 1 depth 2\nfence\njob 1 depth 2\n", fault(2, 3)),
+        (b"job 1 depth 2\nfence\njob 1 depth 2\n", fault(3, 3)),
     ];
     expect_outcomes(&rt, rt.alloc(), &cases);
 }
@@ -69,9 +69,9 @@ fn reads_lines_and_words(rt: HostRuntime) {
         (line_feeds, Ok((2, 2))),
         (returns, Ok((2, 2))),
         (tabs, Ok((2, 2))),
-        (return_at_end, fault(3, 3)),
-        (not_ascii, fault(2, 3)),
-        (b"job 1 depth 2\nprint f\n", fault(2, 3)),
+        (return_at_end, fault(3, 1)),
+        (not_ascii, fault(2, 1)),
+        (b"job 1 depth 2\nprint f\n", fault(2, 6)),
     ];
     expect_outcomes(&rt, rt.alloc(), &cases);
 }
@@ -81,9 +81,34 @@ fn refuses_one_command_too_many(rt: HostRuntime) -> Result<(), Fail> {
     let alloc = rt.alloc();
     let line = b"project f const 1 level 0 tol 0\n";
     assert_eq!(rt; outcome(alloc, &repeated(alloc, line, 32)?), Ok((0, 32)));
-    assert_eq!(rt; outcome(alloc, &repeated(alloc, line, 33)?), fault(34, 3));
+    assert_eq!(rt; outcome(alloc, &repeated(alloc, line, 33)?), fault(34, 8));
+    assert_eq!(rt;
+        outcome(alloc, &repeated(alloc, b"fence\n", 512)?),
+        Ok((0, 512))
+    );
+    assert_eq!(rt;
+        outcome(alloc, &repeated(alloc, b"fence\n", 513)?),
+        fault(514, 5)
+    );
     assert_eq!(rt; outcome(alloc, &trees(alloc, 16)?), Ok((0, 16)));
-    assert_eq!(rt; outcome(alloc, &trees(alloc, 17)?), fault(18, 3));
+    assert_eq!(rt; outcome(alloc, &trees(alloc, 17)?), fault(18, 5));
+    Ok(())
+}
+
+// A header, a tree, and so many times a fence and a `print` of the tree.
+fn prints(alloc: Global, count: u32) -> Result<Vec<u8>, AllocError> {
+    let mut text = b"job 1 depth 0\nproject f const 1 level 0 tol 0\n".to_vec(alloc)?;
+    for _ in 0..count {
+        text.extend_from_slice(b"fence\nprint f\n")?;
+    }
+    Ok(text)
+}
+
+#[test]
+fn refuses_one_print_too_many(rt: HostRuntime) -> Result<(), Fail> {
+    let alloc = rt.alloc();
+    assert_eq!(rt; outcome(alloc, &prints(alloc, 64)?), Ok((0, 129)));
+    assert_eq!(rt; outcome(alloc, &prints(alloc, 65)?), fault(132, 5));
     Ok(())
 }
 
