@@ -1,6 +1,6 @@
 -- What the checks of commands say of one more command.
 use Rattle.std.proofs.Common.{◌≡◌, ℕ, zero, suc, ◌+◌, ◌<◌, Bool, false, length, take, drop, get_or, List, [], ◌∷◌, ◌++◌, map, refl, sym, ◌∙◌, ap, true, append_assoc, append-nil, arith}
-use Rattle.std.specs.Prelude.{◌&&◌, ◌||◌, if◌then◌else◌, Option, Some, None, IfSome}
+use Rattle.std.specs.Prelude.{◌&&◌, if◌then◌else◌, Option, Some, None, IfSome}
 use Rattle.std.specs.Bool.{then_some}
 use Rattle.std.specs.Option.{option_map}
 use Rattle.std.proofs.lemmas.Bool.{and_parts}
@@ -36,41 +36,6 @@ IsJob-push job c is_job accepted = record {
   depth = is_job.depth;
   commands = rw (are_accepted-append job.depth [] job.commands c, is_job.commands) accepted;
 }
-
--- two tests of a value, one after the other
-both : {A : Type 0} (o : Option A) (p q : A → Bool) → (o >>= λ x. if p x && q x then Some x else None) ≡ ((o >>= λ x. if p x then Some x else None) >>= λ x. if q x then Some x else None)
-both None p q = refl
-both (Some x) p q = elim (p x) as (λ b. (if b && q x then Some x else None) ≡ ((if b then Some x else None) >>= λ x. if q x then Some x else None)) [ true ↦ refl | false ↦ refl ]
-
-tested : {A : Type 0} (o : Option A) (p : A → Bool) (x : A) → (o >>= λ x. if p x then Some x else None) ≡ Some x → p x ≡ true
-tested None p x is = cc
-tested (Some y) p x is =
-    let parts = cond_some (p y) y x is in
-    rw parts.1 at parts.0
-
--- the answer to a line, from the form of its words, the form's command, and whether it may follow
-command_of_words-form : (depth : ℕ) (before : List Command) (words : Words) (form : Form) (c : Command) → form_of words ≡ Some form → limited_command depth form ≡ Some c → command_of_words depth before words ≡ (if may_follow before c then Some c else None)
-command_of_words-form depth before words form c is_form is_command =
-    rw (is_form, both (command_of_form form) (is_within_limits depth) (may_follow before), is_command) refl
-
-accepted-limited : (depth : ℕ) (before : List Command) (form : Form) (c : Command) → limited_command depth form ≡ Some c → may_follow before c ≡ true → is_accepted depth before c ≡ true
-accepted-limited depth before form c is follows = rw (tested (command_of_form form) (is_within_limits depth) c is) follows
-
-chosen : (b : Bool) (o : Option CommandCode) (c : CommandCode) → o ≡ then_some b c → option_map data_of o ≡ (if b then Some (data_of c) else None)
-chosen true o c is = ap (option_map data_of) is
-chosen false o c is = ap (option_map data_of) is
-
--- the answer to a line of a form whose numbers are within their limits
-pub command_of_words-chosen : (depth : ℕ) (before : List Command) (words : Words) (form : Form) (c : CommandCode) (o : Option CommandCode) → form_of words ≡ Some form → limited_command depth form ≡ Some (data_of c) → o ≡ then_some (may_follow before (data_of c)) c → option_map data_of o ≡ command_of_words depth before words
-command_of_words-chosen depth before words form c o is_form is_command is =
-    chosen (may_follow before (data_of c)) o c is ∙ sym (command_of_words-form depth before words form (data_of c) is_form is_command)
-
-pub accepted-chosen : (depth : ℕ) (before : List Command) (form : Form) (c : CommandCode) (o : Option CommandCode) → limited_command depth form ≡ Some (data_of c) → o ≡ then_some (may_follow before (data_of c)) c → IfSome o (λ d. is_accepted depth before (data_of d) ≡ true)
-accepted-chosen depth before form c o is_command is =
-    elim (may_follow before (data_of c)) as (λ b. may_follow before (data_of c) ≡ b → o ≡ then_some b c → IfSome o (λ d. is_accepted depth before (data_of d) ≡ true)) [
-      | true ↦ λ follows some. rw some (accepted-limited depth before form (data_of c) is_command follows)
-      | false ↦ λ follows none. rw none tt
-    ] refl is
 
 and_false : (a b : Bool) → b ≡ false → (a && b) ≡ false
 and_false true b is = is

@@ -1,5 +1,5 @@
 -- The plain data that a job of the code is.
-use Rattle.std.specs.Prelude.{List, [], ◌∷◌, ℕ}
+use Rattle.std.specs.Prelude.{ℕ, Result, Ok, Err}
 use Rattle.tree_model.specs.Commands.{Command}
 use Rattle.tree_model.specs.Commands.Command.{Project as ProjectCommand, Refine as RefineCommand, Compress as CompressCommand, Reconstruct as ReconstructCommand, Add as AddCommand, Mul as MulCommand, Inner as InnerCommand, Print as PrintCommand, Fence as FenceCommand}
 use Rattle.tree_model.specs.Nodes.{Form}
@@ -20,6 +20,11 @@ data_of (Mul name left right) = MulCommand name left right
 data_of (Inner left right) = InnerCommand left right
 data_of (Print name) = PrintCommand name
 data_of Fence = FenceCommand
+
+-- a command that was read, or a kind of fault
+abbrev pub command_read : Result CommandCode ℕ → Result Command ℕ
+command_read (Ok command) = Ok (data_of command)
+command_read (Err kind) = Err kind
 
 abbrev pub form_of : TreeForm → Form
 form_of Reconstructed = ReconstructedForm

@@ -6,7 +6,15 @@ use Rattle.job_lang.specs.declared.parse_error.ParseError.TheVariants.{Fault, Ou
 
 -- what is wrong, by the kind of fault
 abbrev pub fault_text : ℕ → List ℕ
-fault_text kind = if kind == 2 then codes "header" else codes "unknown command"
+fault_text kind =
+    if kind == 1 then codes "byte outside ASCII"
+    else if kind == 2 then codes "header"
+    else if kind == 3 then codes "unknown command"
+    else if kind == 4 then codes "words"
+    else if kind == 5 then codes "limit"
+    else if kind == 6 then codes "unknown tree"
+    else if kind == 7 then codes "wrong form"
+    else codes "too many before a fence"
 
 -- the line that tells a fault, without a line feed
 abbrev pub fault_line : JobFault → List ℕ

@@ -1,5 +1,5 @@
 -- What the checks of one more command need of the commands before it.
-use Rattle.std.specs.Prelude.{◌≡◌, ◌≤◌, ℕ, List, take, count_by}
+use Rattle.std.specs.Prelude.{◌≡◌, ◌≤◌, List, take, count_by}
 use Rattle.tree_model.specs.Commands.{Command}
 use Rattle.job_lang.specs.declared.history.History.{History}
 use Rattle.job_lang.specs.Checks.{is_print, since_fence}

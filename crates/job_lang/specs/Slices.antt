@@ -2,9 +2,7 @@
 use Rattle.std.specs.Prelude.{ℕ, List, map, Option}
 use Rattle.std.specs.Borrow.{Bor}
 use Rattle.std.specs.Option.{option_map}
-use Rattle.tree_model.specs.Functions.{Function}
-use Rattle.haar_node.specs.declared.Func.{Func}
-use Rattle.haar_node.specs.Func.{function_of}
+use Rattle.job_lang.specs.declared.function_form.FunctionForm.{FunctionForm}
 use Rattle.job_lang.specs.declared.names.Name.{Name}
 use Rattle.job_lang.specs.Grammar.{Words}
 
@@ -26,5 +24,12 @@ name_read o = option_map (λ r. (r.0.bytes.now, texts r.1.now)) o
 abbrev pub number_read : {A : Type 0} → Option (A × Slices) → Option (A × Words)
 number_read o = option_map (λ r. (r.0, texts r.1.now)) o
 
-abbrev pub function_read : Option (Func × Slices) → Option (Function × Words)
-function_read o = option_map (λ r. (function_of r.0, texts r.1.now)) o
+abbrev pub function_read : Option (FunctionForm × Slices) → Option (FunctionForm × Words)
+function_read o = option_map (λ r. (r.0, texts r.1.now)) o
+
+-- names that were read
+abbrev pub name_only : Option Name → Option (List ℕ)
+name_only o = option_map (λ name. name.bytes.now) o
+
+abbrev pub names_only : Option (Name × Name) → Option (List ℕ × List ℕ)
+names_only o = option_map (λ r. (r.0.bytes.now, r.1.bytes.now)) o

@@ -1,5 +1,5 @@
 -- The last writer of each tree, as places of a list of commands.
-use Rattle.std.specs.Prelude.{◌≡◌, ℕ, ◌<◌, Bool, List, [], ◌∷◌, length, get_or, All, Option, None, if◌then◌else◌}
+use Rattle.std.specs.Prelude.{◌≡◌, ℕ, ◌<◌, List, [], ◌∷◌, length, get_or, All, Option, None, if◌then◌else◌}
 use Rattle.tree_model.specs.Commands.{Command, writes}
 use Rattle.tree_model.specs.Commands.Command.{Fence}
 use Rattle.tree_model.specs.Nodes.{Form}

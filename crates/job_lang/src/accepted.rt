@@ -1,22 +1,21 @@
-ghost use Rattle.std.specs.Prelude.{◌≡◌, ℕ, List, [], ◌∷◌, ◌++◌, ◌+◌, ◌≤◌, true, IfOk, IfSome, OnOk, OnErr};
-ghost use Rattle.std.specs.Option.{option_map};
+ghost use Rattle.std.specs.Prelude.{◌≡◌, ℕ, List, [], ◌∷◌, ◌++◌, ◌+◌, ◌≤◌, true, IfOk, OnOk, OnErr};
 ghost use Rattle.tree_model.specs.Functions.{max_depth};
 ghost use Rattle.job_lang.specs.declared.fault.JobFault.{JobFault as FaultData};
-ghost use Rattle.job_lang.specs.Checks.{is_accepted};
-ghost use Rattle.job_lang.specs.Reading.{command_of_words, commands_from};
+ghost use Rattle.job_lang.specs.Checks.{has_names, is_accepted};
+ghost use Rattle.job_lang.specs.Lines.{words as line_words};
+ghost use Rattle.job_lang.specs.Reading.{checked_command, command_of_line, command_of_words, commands_from};
 ghost use Rattle.job_lang.specs.Slices.{texts};
 
 use crate::command::Command;
-use crate::fault::JobFault;
+use crate::fault::{BYTE_FAULT, COMMAND_FAULT, JobFault, LIMIT_FAULT, WORDS_FAULT};
 use crate::form::Form;
 use crate::history::History;
 use crate::job::Job;
-use crate::lines::{is_passed_over, words_of};
+use crate::lines::{has_allowed_bytes, is_passed_over, words_of};
 use crate::parse_error::ParseError;
+use crate::verb::Verb;
 use std::alloc::{AllocError, Global};
 use std::marker::Model;
-
-const COMMAND_FAULT: u8 = 3;
 
 /// The commands of a job's first lines, each accepted behind those before it.
 #[derive(Drop)]
@@ -40,7 +39,7 @@ impl Model for Accepted {
 }
 
 impl Accepted {
-    ghost use Rattle.job_lang.specs.Data.{data_of};
+    ghost use Rattle.job_lang.specs.Data.{command_read, data_of};
 
     /// No commands, at a depth from 0 to 16.
     pub fn new(alloc: Global, depth: u8) -> Accepted
@@ -68,21 +67,59 @@ impl Accepted {
         Ok(())
     }
 
-    // The command that a line's words say, where it is accepted behind the others.
-    fn command_of(&self, alloc: Global, words: &[&[u8]]) -> Result<Option<Command>, AllocError>
-        ensures command { IfOk result (λ o. option_map data_of o
+    // A command with names, or the lowest kind of fault that it has behind the others.
+    fn checked(&self, command: Command) -> Result<Command, u8>
+        requires { has_names (data_of command) ≡ true }
+        ensures command { command_read result
+            ≡ checked_command self.now.depth self.now.commands (data_of command) }
+        ensures accepted { IfOk result (λ c. is_accepted self.now.depth self.now.commands (data_of c) ≡ true) }
+    {
+        let fault = self.history.fault_of(self.depth, &self.commands, &command);
+        match fault {
+            Some(kind) => Err(kind),
+            None => Ok(command),
+        }
+    }
+
+    // The command that a line's words say, or the lowest kind of fault that it has behind the others.
+    fn command_of(&self, alloc: Global, words: &[&[u8]]) -> Result<Result<Command, u8>, AllocError>
+        ensures command { IfOk result (λ r. command_read r
             ≡ command_of_words self.now.depth self.now.commands (texts words.now)) }
-        ensures accepted { IfOk result (λ o. IfSome o (λ c.
+        ensures accepted { IfOk result (λ r. IfOk r (λ c.
             is_accepted self.now.depth self.now.commands (data_of c) ≡ true)) }
     {
-        let Some(form) = Form::of_words(words) else {
-            return Ok(None);
+        let Some((first, rest)) = words.split_first() else {
+            return Ok(Err(COMMAND_FAULT));
+        };
+        let Some(verb) = Verb::of_word(first) else {
+            return Ok(Err(COMMAND_FAULT));
+        };
+        let Some(form) = Form::of_words(verb, rest) else {
+            return Ok(Err(WORDS_FAULT));
         };
         let Some(command) = form.to_command(alloc, self.depth)? else {
-            return Ok(None);
+            return Ok(Err(LIMIT_FAULT));
         };
-        let follows = self.history.may_follow(&self.commands, &command);
-        Ok(follows.then_some(command))
+        Ok(self.checked(command))
+    }
+
+    // The command that a line says that isn't passed over, or the lowest kind of fault that it has behind the others.
+    fn command_of_line(
+        &self,
+        alloc: Global,
+        line: &[u8],
+        words: &[&[u8]],
+    ) -> Result<Result<Command, u8>, AllocError>
+        requires { texts words.now ≡ line_words line.now }
+        ensures command { IfOk result (λ r. command_read r
+            ≡ command_of_line self.now.depth self.now.commands line.now) }
+        ensures accepted { IfOk result (λ r. IfOk r (λ c.
+            is_accepted self.now.depth self.now.commands (data_of c) ≡ true)) }
+    {
+        if !has_allowed_bytes(line) {
+            return Ok(Err(BYTE_FAULT));
+        }
+        self.command_of(alloc, words)
     }
 
     /// Takes the line of a number: it is passed over, or its command is added. An error leaves the commands as they
@@ -90,7 +127,7 @@ impl Accepted {
     ///
     /// # Errors
     ///
-    /// `Fault` where the line isn't an accepted command; `OutOfMemory` where there is no memory left.
+    /// `Fault` where the line has a fault, with the lowest kind; `OutOfMemory` where there is no memory left.
     pub fn take_line(&mut self, alloc: Global, number: u64, line: &[u8]) -> Result<(), ParseError>
         ensures depth { self.new.depth ≡ self.old.depth }
         ensures ok { OnOk result ((rest : List (List ℕ)) →
@@ -104,14 +141,13 @@ impl Accepted {
         if is_passed_over(&words) {
             return Ok(());
         }
-        let Some(command) = self.command_of(alloc, &words)? else {
-            return Err(ParseError::Fault(JobFault {
-                line: number,
-                kind: COMMAND_FAULT,
-            }));
-        };
-        self.push(command)?;
-        Ok(())
+        match self.command_of_line(alloc, line, &words)? {
+            Ok(command) => {
+                self.push(command)?;
+                Ok(())
+            }
+            Err(kind) => Err(ParseError::Fault(JobFault { line: number, kind })),
+        }
     }
 
     /// The job of the commands.

@@ -65,8 +65,8 @@ const MAX_TOLERANCE: u32 = 1 << 25;
 
 const MAX_FACTOR: u64 = 1 << 20;
 
-// Whether a number may be a factor of a sum.
-fn is_factor(number: i64) -> bool
+/// Whether a number may be a factor of a sum.
+pub fn is_factor(number: i64) -> bool
     ensures { result ≡ is_factor number }
 {
     number.unsigned_abs() <= MAX_FACTOR
@@ -159,8 +159,8 @@ impl Command {
         matches!(self, Command::Fence)
     }
 
-    // Whether the names are names.
-    fn has_names(&self) -> bool
+    /// Whether the names are names.
+    pub fn has_names(&self) -> bool
         ensures { result ≡ has_names (data_of self.now) }
     {
         match self {
@@ -183,8 +183,8 @@ impl Command {
         }
     }
 
-    // Whether the numbers are within their limits at a depth.
-    fn has_numbers(&self, depth: u8) -> bool
+    /// Whether the numbers are within their limits at a depth.
+    pub fn has_numbers(&self, depth: u8) -> bool
         ensures { result ≡ has_numbers depth (data_of self.now) }
     {
         match self {

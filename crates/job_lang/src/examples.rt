@@ -1,7 +1,7 @@
 //! The reading of bytes, computed on small texts. What is expected was worked out by hand.
 ghost use Rattle.std.specs.Prelude.{◌≡◌, true, false, [], ◌∷◌, ◌++◌, Some, None, Ok, Err, codes, pos, negsuc};
-ghost use Rattle.tree_model.specs.Functions.Function.{Const, Ramp};
-ghost use Rattle.tree_model.specs.Commands.Command.{Project, Print};
+ghost use Rattle.tree_model.specs.Functions.Function.{Const, Hash, Ramp};
+ghost use Rattle.tree_model.specs.Commands.Command.{Add, Compress, Fence, Inner, Mul, Print, Project, Reconstruct};
 ghost use Rattle.job_lang.specs.Faults.{fault_line};
 ghost use Rattle.job_lang.specs.Names.{is_name};
 ghost use Rattle.job_lang.specs.Numbers.{number};
@@ -20,7 +20,7 @@ pub fn projects_and_prints()
 
 /// Lines that are passed over keep their numbers, and a line may end with a carriage return.
 pub fn unknown_tree()
-    ensures { reading_of (codes "job 1\tdepth 02\r\n\n # a\nprint f") ≡ Err (record { line = 4; kind = 3 }) }
+    ensures { reading_of (codes "job 1\tdepth 02\r\n\n # a\nprint f") ≡ Err (record { line = 4; kind = 6 }) }
 {}
 
 /// A number has 1 to 18 digits, and one minus may stand before them.
@@ -55,18 +55,21 @@ pub fn headers()
 
 /// A carriage return belongs to a line's end only before a line feed, and `#` after blanks begins a comment.
 pub fn ends_of_lines()
-    ensures return_at_end { reading_of (codes "job 1 depth 0\r") ≡ Err (record { line = 1; kind = 2 }) }
+    ensures return_at_end { reading_of (codes "job 1 depth 0\r") ≡ Err (record { line = 1; kind = 1 }) }
     ensures return_before_feed { reading_of (codes "job 1 depth 0\r\n \t#x y\r\n")
         ≡ Ok (record { depth = 0; commands = [] }) }
-    ensures return_within { reading_of (codes "job 1 depth 0\n\r\r\n") ≡ Err (record { line = 2; kind = 3 }) }
+    ensures return_within { reading_of (codes "job 1 depth 0\n\r\r\n") ≡ Err (record { line = 2; kind = 1 }) }
 {}
 
 /// A byte that no form has is a fault of its line, and none in a comment.
 pub fn foreign_bytes()
     ensures in_header { reading_of (codes "job 1 depth 0" ++ 200 ∷ codes "\n")
-        ≡ Err (record { line = 1; kind = 2 }) }
+        ≡ Err (record { line = 1; kind = 1 }) }
     ensures in_a_command { reading_of (codes "job 1 depth 0\n" ++ 0 ∷ 200 ∷ [])
-        ≡ Err (record { line = 2; kind = 3 }) }
+        ≡ Err (record { line = 2; kind = 1 }) }
+    ensures last_printable { reading_of (codes "job 1 depth 0\nfence ~") ≡ Err (record { line = 2; kind = 4 }) }
+    ensures delete { reading_of (codes "job 1 depth 0\nfence " ++ 127 ∷ [])
+        ≡ Err (record { line = 2; kind = 1 }) }
     ensures in_a_comment { reading_of (codes "#" ++ 200 ∷ 0 ∷ codes "\njob 1 depth 0")
         ≡ Ok (record { depth = 0; commands = [] }) }
 {}
@@ -76,15 +79,15 @@ pub fn limits()
     ensures steepest { reading_of (codes "job 1 depth 1\nproject f ramp 0 16777216 level 0 tol 0")
         ≡ Ok (record { depth = 1; commands = Project (codes "f") (record { function = Ramp (pos 0) (pos 16777216); level = 0; tolerance = 0 }) ∷ [] }) }
     ensures too_steep { reading_of (codes "job 1 depth 1\nproject f ramp 0 16777217 level 0 tol 0")
-        ≡ Err (record { line = 2; kind = 3 }) }
+        ≡ Err (record { line = 2; kind = 5 }) }
     ensures smallest { reading_of (codes "job 1 depth 1\nproject f const -16777216 level 1 tol 33554432")
         ≡ Ok (record { depth = 1; commands = Project (codes "f") (record { function = Const (negsuc 16777215); level = 1; tolerance = 33554432 }) ∷ [] }) }
     ensures too_small { reading_of (codes "job 1 depth 1\nproject f const -16777217 level 1 tol 0")
-        ≡ Err (record { line = 2; kind = 3 }) }
+        ≡ Err (record { line = 2; kind = 5 }) }
     ensures level_above_depth { reading_of (codes "job 1 depth 1\nproject f const 0 level 2 tol 0")
-        ≡ Err (record { line = 2; kind = 3 }) }
+        ≡ Err (record { line = 2; kind = 5 }) }
     ensures negative_tolerance { reading_of (codes "job 1 depth 1\nproject f const 0 level 0 tol -1")
-        ≡ Err (record { line = 2; kind = 3 }) }
+        ≡ Err (record { line = 2; kind = 5 }) }
     ensures negative_zero { reading_of (codes "job 1 depth 1\nproject f const -0 level -0 tol -0")
         ≡ Ok (record { depth = 1; commands = Project (codes "f") (record { function = Const (pos 0); level = 0; tolerance = 0 }) ∷ [] }) }
 {}
@@ -98,13 +101,46 @@ pub fn order_of_commands()
               ∷ Project (codes "f") (record { function = Const (pos 2); level = 0; tolerance = 0 }) ∷ Print (codes "f") ∷ [];
         }) }
     ensures printed_before { reading_of (codes "job 1 depth 0\nprint f\nproject f const 1 level 0 tol 0")
-        ≡ Err (record { line = 2; kind = 3 }) }
+        ≡ Err (record { line = 2; kind = 6 }) }
     ensures first_fault { reading_of (codes "job 1 depth 0\n\nprnt f\nprint g")
         ≡ Err (record { line = 3; kind = 3 }) }
+{}
+
+/// The lowest kind of a line with several faults.
+pub fn lowest_kinds()
+    ensures byte_before_command { reading_of (codes "job 1 depth 0\nprnt " ++ 200 ∷ []) ≡ Err (record { line = 2; kind = 1 }) }
+    ensures words_before_limit { reading_of (codes "job 1 depth 0\nproject f const 99999999 level 0") ≡ Err (record { line = 2; kind = 4 }) }
+    ensures limit_before_tree { reading_of (codes "job 1 depth 0\nrefine f 1") ≡ Err (record { line = 2; kind = 5 }) }
+    ensures tree_before_form { reading_of (codes "job 1 depth 0\nproject f const 1 level 0 tol 0\ninner f g") ≡ Err (record { line = 3; kind = 6 }) }
+    ensures wrong_form { reading_of (codes "job 1 depth 0\nproject f const 1 level 0 tol 0\ninner f f") ≡ Err (record { line = 3; kind = 7 }) }
+{}
+
+/// A written tree may be one of those that are read, and has the form of its last writer.
+pub fn forms_of_trees()
+    ensures sum_over_itself { reading_of (codes "job 1 depth 0\nproject f const 1 level 0 tol 0\ncompress f\nadd f = 2 f + -1 f\ninner f f")
+        ≡ Ok (record {
+          depth = 0;
+          commands = Project (codes "f") (record { function = Const (pos 1); level = 0; tolerance = 0 })
+              ∷ Compress (codes "f") ∷ Add (codes "f") (pos 2) (codes "f") (negsuc 0) (codes "f") ∷ Inner (codes "f") (codes "f") ∷ [];
+        }) }
+    ensures refined_in_compressed_form { reading_of (codes "job 1 depth 0\nproject f const 1 level 0 tol 0\ncompress f\nrefine f 0") ≡ Err (record { line = 4; kind = 7 }) }
+    ensures turned_back { reading_of (codes "job 1 depth 0\nproject f hash 4294967295 1 level 0 tol 0\ncompress f\nreconstruct f\nmul g = f * f\nfence")
+        ≡ Ok (record {
+          depth = 0;
+          commands = Project (codes "f") (record { function = Hash 4294967295 1; level = 0; tolerance = 0 })
+              ∷ Compress (codes "f") ∷ Reconstruct (codes "f") ∷ Mul (codes "g") (codes "f") (codes "f") ∷ Fence ∷ [];
+        }) }
+    ensures factor_too_large { reading_of (codes "job 1 depth 0\nproject f const 1 level 0 tol 0\ncompress f\nadd f = 1048577 f + 0 f") ≡ Err (record { line = 4; kind = 5 }) }
 {}
 
 /// The lines that tell faults.
 pub fn fault_lines()
     ensures command { fault_line (record { line = 4; kind = 3 }) ≡ codes "fault line 4 F3 unknown command" }
+    ensures byte { fault_line (record { line = 1; kind = 1 }) ≡ codes "fault line 1 F1 byte outside ASCII" }
+    ensures words { fault_line (record { line = 1; kind = 4 }) ≡ codes "fault line 1 F4 words" }
+    ensures limit { fault_line (record { line = 1; kind = 5 }) ≡ codes "fault line 1 F5 limit" }
+    ensures tree { fault_line (record { line = 1; kind = 6 }) ≡ codes "fault line 1 F6 unknown tree" }
+    ensures form { fault_line (record { line = 1; kind = 7 }) ≡ codes "fault line 1 F7 wrong form" }
+    ensures fence { fault_line (record { line = 1; kind = 8 }) ≡ codes "fault line 1 F8 too many before a fence" }
     ensures header { fault_line (record { line = 1048577; kind = 2 }) ≡ codes "fault line 1048577 F2 header" }
 {}

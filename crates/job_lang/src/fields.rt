@@ -1,11 +1,11 @@
 //! Readers of the words of a line: each takes words off the front, and answers what they say and the words behind them.
 ghost use Rattle.std.specs.Prelude.{◌≡◌};
-ghost use Rattle.job_lang.specs.Grammar.{keyword, name_at, number_at, size_at, const_at, ramp_at, function_at, no_more};
-ghost use Rattle.job_lang.specs.Slices.{texts, rest_read, name_read, number_read, function_read};
+ghost use Rattle.job_lang.specs.Grammar.{box_at, const_at, function_at, hash_at, keyword, name_at, no_more, number_at, one_name, ramp_at, size_at, step_at, two_names};
+ghost use Rattle.job_lang.specs.Slices.{function_read, name_only, name_read, names_only, number_read, rest_read, texts};
 
+use crate::function_form::FunctionForm;
 use crate::names::Name;
 use crate::numbers::number_of;
-use haar_node::Func;
 
 /// The words behind this very word.
 pub fn keyword<'a, 'b>(text: &[u8], words: &'b [&'a [u8]]) -> Option<&'b [&'a [u8]]>
@@ -31,6 +31,25 @@ pub fn name_at<'a, 'b>(words: &'b [&'a [u8]]) -> Option<(Name<'a>, &'b [&'a [u8]
     Some((name, rest))
 }
 
+/// A name, behind which no word is left.
+pub fn one_name<'a>(words: &[&'a [u8]]) -> Option<Name<'a>>
+    ensures { name_only result ≡ one_name (texts words.now) }
+{
+    let (name, words) = name_at(words)?;
+    no_more(words)?;
+    Some(name)
+}
+
+/// Two names, behind which no word is left.
+pub fn two_names<'a>(words: &[&'a [u8]]) -> Option<(Name<'a>, Name<'a>)>
+    ensures { names_only result ≡ two_names (texts words.now) }
+{
+    let (left, words) = name_at(words)?;
+    let (right, words) = name_at(words)?;
+    no_more(words)?;
+    Some((left, right))
+}
+
 /// A number, and the words behind it.
 pub fn number_at<'a, 'b>(words: &'b [&'a [u8]]) -> Option<(i64, &'b [&'a [u8]])>
     ensures { number_read result ≡ number_at (texts words.now) }
@@ -52,27 +71,71 @@ pub fn size_at<'a, 'b>(words: &'b [&'a [u8]]) -> Option<(u64, &'b [&'a [u8]])>
 }
 
 /// The function `const C`, and the words behind it.
-pub fn const_at<'a, 'b>(words: &'b [&'a [u8]]) -> Option<(Func, &'b [&'a [u8]])>
+pub fn const_at<'a, 'b>(words: &'b [&'a [u8]]) -> Option<(FunctionForm, &'b [&'a [u8]])>
     ensures { function_read result ≡ const_at (texts words.now) }
 {
     let words = keyword(b"const", words)?;
     let (constant, words) = number_at(words)?;
-    Some((Func::Const(constant), words))
+    Some((FunctionForm::Const(constant), words))
 }
 
 /// The function `ramp A B`, and the words behind it.
-pub fn ramp_at<'a, 'b>(words: &'b [&'a [u8]]) -> Option<(Func, &'b [&'a [u8]])>
+pub fn ramp_at<'a, 'b>(words: &'b [&'a [u8]]) -> Option<(FunctionForm, &'b [&'a [u8]])>
     ensures { function_read result ≡ ramp_at (texts words.now) }
 {
     let words = keyword(b"ramp", words)?;
     let (start, words) = number_at(words)?;
     let (slope, words) = number_at(words)?;
-    Some((Func::Ramp(start, slope), words))
+    Some((FunctionForm::Ramp(start, slope), words))
+}
+
+/// The function `step X L H`, and the words behind it.
+pub fn step_at<'a, 'b>(words: &'b [&'a [u8]]) -> Option<(FunctionForm, &'b [&'a [u8]])>
+    ensures { function_read result ≡ step_at (texts words.now) }
+{
+    let words = keyword(b"step", words)?;
+    let (edge, words) = number_at(words)?;
+    let (before, words) = number_at(words)?;
+    let (behind, words) = number_at(words)?;
+    Some((FunctionForm::Step(edge, before, behind), words))
+}
+
+/// The function `box X Y V`, and the words behind it.
+pub fn box_at<'a, 'b>(words: &'b [&'a [u8]]) -> Option<(FunctionForm, &'b [&'a [u8]])>
+    ensures { function_read result ≡ box_at (texts words.now) }
+{
+    let words = keyword(b"box", words)?;
+    let (start, words) = number_at(words)?;
+    let (end, words) = number_at(words)?;
+    let (value, words) = number_at(words)?;
+    Some((FunctionForm::Box(start, end, value), words))
+}
+
+/// The function `hash S M`, and the words behind it.
+pub fn hash_at<'a, 'b>(words: &'b [&'a [u8]]) -> Option<(FunctionForm, &'b [&'a [u8]])>
+    ensures { function_read result ≡ hash_at (texts words.now) }
+{
+    let words = keyword(b"hash", words)?;
+    let (seed, words) = number_at(words)?;
+    let (modulus, words) = number_at(words)?;
+    Some((FunctionForm::Hash(seed, modulus), words))
 }
 
 /// A function, and the words behind it.
-pub fn function_at<'a, 'b>(words: &'b [&'a [u8]]) -> Option<(Func, &'b [&'a [u8]])>
+pub fn function_at<'a, 'b>(words: &'b [&'a [u8]]) -> Option<(FunctionForm, &'b [&'a [u8]])>
     ensures { function_read result ≡ function_at (texts words.now) }
 {
-    const_at(words).or_else(|| ramp_at(words))
+    if let Some(read) = const_at(words) {
+        return Some(read);
+    }
+    if let Some(read) = ramp_at(words) {
+        return Some(read);
+    }
+    if let Some(read) = step_at(words) {
+        return Some(read);
+    }
+    if let Some(read) = box_at(words) {
+        return Some(read);
+    }
+    hash_at(words)
 }

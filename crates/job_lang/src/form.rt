@@ -1,16 +1,16 @@
 //! The forms of lines, read from their words.
-ghost use Rattle.std.specs.Prelude.{◌≡◌, ◌≤◌, IfOk, IfSome};
+ghost use Rattle.std.specs.Prelude.{◌≡◌, ◌≤◌, IfSome};
 ghost use Rattle.std.specs.Option.{option_map};
 ghost use Rattle.tree_model.specs.Functions.{max_depth};
-ghost use Rattle.job_lang.specs.Grammar.{header_of, project_of, print_of, form_of};
-ghost use Rattle.job_lang.specs.Limits.{limited_command, size_up_to};
+ghost use Rattle.job_lang.specs.Grammar.{add_of, fence_of, form_of, header_of, mul_of, project_of, refine_of};
 ghost use Rattle.job_lang.specs.Slices.{texts};
 
-use crate::command::Command;
-use crate::fields::{function_at, keyword, name_at, no_more, number_at, size_at};
+use crate::fields::{
+    function_at, keyword, name_at, no_more, number_at, one_name, size_at, two_names,
+};
+use crate::function_form::FunctionForm;
 use crate::names::Name;
-use haar_node::Func;
-use std::alloc::{AllocError, Global};
+use crate::verb::Verb;
 
 /// A line of a job as its words say it, with any numbers.
 #[derive(Clone, Copy)]
@@ -18,14 +18,48 @@ pub enum Form<'a> {
     /// `project NAME FUNC level N tol T`
     Project {
         name: Name<'a>,
-        function: Func,
+        function: FunctionForm,
         level: i64,
         tolerance: i64,
+    },
+    /// `refine NAME N`
+    Refine {
+        name: Name<'a>,
+        level: i64,
+    },
+    /// `compress NAME`
+    Compress {
+        name: Name<'a>,
+    },
+    /// `reconstruct NAME`
+    Reconstruct {
+        name: Name<'a>,
+    },
+    /// `add NAME = A NAME + B NAME`
+    Add {
+        name: Name<'a>,
+        left_factor: i64,
+        left: Name<'a>,
+        right_factor: i64,
+        right: Name<'a>,
+    },
+    /// `mul NAME = NAME * NAME`
+    Mul {
+        name: Name<'a>,
+        left: Name<'a>,
+        right: Name<'a>,
+    },
+    /// `inner NAME NAME`
+    Inner {
+        left: Name<'a>,
+        right: Name<'a>,
     },
     /// `print NAME`
     Print {
         name: Name<'a>,
     },
+    /// `fence`
+    Fence,
 }
 
 const MAX_DEPTH: u64 = 16;
@@ -47,28 +81,13 @@ pub fn header_of(words: &[&[u8]]) -> Option<u8>
     }
 }
 
-const MAX_TOLERANCE: u64 = 1 << 25;
-
-// A number from 0 to a limit.
-fn size_up_to(limit: u64, number: i64) -> Option<u64>
-    ensures { result ≡ size_up_to limit number }
-{
-    if number < 0 {
-        return None;
-    }
-    let size = number as u64;
-    if size <= limit { Some(size) } else { None }
-}
-
 impl<'a> Form<'a> {
-    ghost use Rattle.job_lang.specs.Data.{data_of};
     ghost use Rattle.job_lang.specs.Code.{form_data};
 
-    /// `project NAME FUNC level N tol T`. None exactly where the words aren't that.
-    pub fn project_of(words: &[&'a [u8]]) -> Option<Form<'a>>
+    // `NAME FUNC level N tol T`
+    fn project_of(words: &[&'a [u8]]) -> Option<Form<'a>>
         ensures { option_map form_data result ≡ project_of (texts words.now) }
     {
-        let words = keyword(b"project", words)?;
         let (name, words) = name_at(words)?;
         let (function, words) = function_at(words)?;
         let words = keyword(b"level", words)?;
@@ -84,54 +103,78 @@ impl<'a> Form<'a> {
         })
     }
 
-    /// `print NAME`. None exactly where the words aren't that.
-    pub fn print_of(words: &[&'a [u8]]) -> Option<Form<'a>>
-        ensures { option_map form_data result ≡ print_of (texts words.now) }
+    // `NAME N`
+    fn refine_of(words: &[&'a [u8]]) -> Option<Form<'a>>
+        ensures { option_map form_data result ≡ refine_of (texts words.now) }
     {
-        let words = keyword(b"print", words)?;
         let (name, words) = name_at(words)?;
+        let (level, words) = number_at(words)?;
         no_more(words)?;
-        Some(Form::Print { name })
+        Some(Form::Refine { name, level })
     }
 
-    /// The form of a line's words. None exactly where they have none.
-    pub fn of_words(words: &[&'a [u8]]) -> Option<Form<'a>>
-        ensures { option_map form_data result ≡ form_of (texts words.now) }
+    // `NAME = A NAME + B NAME`
+    fn add_of(words: &[&'a [u8]]) -> Option<Form<'a>>
+        ensures { option_map form_data result ≡ add_of (texts words.now) }
     {
-        Form::project_of(words).or_else(|| Form::print_of(words))
+        let (name, words) = name_at(words)?;
+        let words = keyword(b"=", words)?;
+        let (left_factor, words) = number_at(words)?;
+        let (left, words) = name_at(words)?;
+        let words = keyword(b"+", words)?;
+        let (right_factor, words) = number_at(words)?;
+        let (right, words) = name_at(words)?;
+        no_more(words)?;
+        Some(Form::Add {
+            name,
+            left_factor,
+            left,
+            right_factor,
+            right,
+        })
     }
 
-    /// The command of the form, with names of its own. None exactly where a number isn't within its limits at the depth.
-    pub fn to_command(&self, alloc: Global, depth: u8) -> Result<Option<Command>, AllocError>
-        ensures { IfOk result (λ o. option_map data_of o ≡ limited_command depth (form_data self.now)) }
+    // `NAME = NAME * NAME`
+    fn mul_of(words: &[&'a [u8]]) -> Option<Form<'a>>
+        ensures { option_map form_data result ≡ mul_of (texts words.now) }
     {
-        match *self {
-            Form::Project {
-                name,
-                function,
-                level,
-                tolerance,
-            } => {
-                let Some(level) = size_up_to(u64::from(depth), level) else {
-                    return Ok(None);
-                };
-                let Some(tolerance) = size_up_to(MAX_TOLERANCE, tolerance) else {
-                    return Ok(None);
-                };
-                if !function.fits(depth) {
-                    return Ok(None);
-                }
-                let name = name.to_text(alloc)?;
-                Ok(Some(Command::Project {
-                    name,
-                    function,
-                    level: level as u8,
-                    tolerance: tolerance as u32,
-                }))
+        let (name, words) = name_at(words)?;
+        let words = keyword(b"=", words)?;
+        let (left, words) = name_at(words)?;
+        let words = keyword(b"*", words)?;
+        let (right, words) = name_at(words)?;
+        no_more(words)?;
+        Some(Form::Mul { name, left, right })
+    }
+
+    /// The form of the words behind a verb. None exactly where they aren't in its form.
+    pub fn of_words(verb: Verb, words: &[&'a [u8]]) -> Option<Form<'a>>
+        ensures { option_map form_data result ≡ form_of verb (texts words.now) }
+    {
+        match verb {
+            Verb::Project => Form::project_of(words),
+            Verb::Refine => Form::refine_of(words),
+            Verb::Compress => {
+                let name = one_name(words)?;
+                Some(Form::Compress { name })
             }
-            Form::Print { name } => {
-                let name = name.to_text(alloc)?;
-                Ok(Some(Command::Print { name }))
+            Verb::Reconstruct => {
+                let name = one_name(words)?;
+                Some(Form::Reconstruct { name })
+            }
+            Verb::Add => Form::add_of(words),
+            Verb::Mul => Form::mul_of(words),
+            Verb::Inner => {
+                let (left, right) = two_names(words)?;
+                Some(Form::Inner { left, right })
+            }
+            Verb::Print => {
+                let name = one_name(words)?;
+                Some(Form::Print { name })
+            }
+            Verb::Fence => {
+                no_more(words)?;
+                Some(Form::Fence)
             }
         }
     }

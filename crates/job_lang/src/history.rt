@@ -2,8 +2,10 @@ ghost use Rattle.std.specs.Prelude.{◌≡◌, ◌+◌, ◌≤◌, ◌||◌, [],
 ghost use Rattle.std.specs.Option.{option_map};
 ghost use Rattle.job_lang.specs.Checks.{brings_tree, form_behind, has_forms, has_room, has_trees, is_accepted, is_fence, is_near_fence, is_print, is_written, max_commands_before_fence, max_prints, may_follow, suits};
 ghost use Rattle.job_lang.specs.Data.{data_of, form_of};
+ghost use Rattle.job_lang.specs.Reading.{checked_command, unless_fault};
 
 use crate::command::Command;
+use crate::fault::{FENCE_FAULT, FORM_FAULT, LIMIT_FAULT, TREE_FAULT};
 use crate::reads::Reads;
 use crate::tree_form::TreeForm;
 use crate::writers::{form_at, writer_of};
@@ -177,6 +179,27 @@ impl History {
         ensures { result ≡ is_accepted depth (map data_of before.now) (data_of command.now) }
     {
         command.is_within_limits(depth) && self.may_follow(before, command)
+    }
+
+    /// The lowest kind of fault that a command with names has behind the commands. None where it has none.
+    pub fn fault_of(&self, depth: u8, before: &[Command], command: &Command) -> Option<u8>
+        requires { Recalls (map data_of before.now) self.now }
+        ensures { unless_fault result (data_of command.now)
+            ≡ checked_command depth (map data_of before.now) (data_of command.now) }
+    {
+        if !command.has_numbers(depth) || !self.has_room(before, command) {
+            return Some(LIMIT_FAULT);
+        }
+        if !self.has_trees(before, command) {
+            return Some(TREE_FAULT);
+        }
+        if !self.has_forms(before, command) {
+            return Some(FORM_FAULT);
+        }
+        if !self.is_near_fence(before, command) {
+            return Some(FENCE_FAULT);
+        }
+        None
     }
 
     // Takes note of the writer of a tree, which is to stand behind the commands.

@@ -1,8 +1,10 @@
 //! The job language: a text of lines becomes a job, or the first fault that stands in it.
 //!
 //! The first line that isn't empty or a comment is the header, `job 1 depth D`. Each line behind it is a command:
-//! `project NAME FUNC level N tol T`, where `FUNC` is `const C` or `ramp A B`, or `print NAME`. Words stand between
-//! spaces and tabs, and a line whose first word begins with `#` is a comment.
+//! `project NAME FUNC level N tol T`, `refine NAME N`, `compress NAME`, `reconstruct NAME`, `add NAME = A NAME + B NAME`,
+//! `mul NAME = NAME * NAME`, `inner NAME NAME`, `print NAME` or `fence`. `FUNC` is `const C`, `ramp A B`, `step X L H`,
+//! `box X Y V` or `hash S M`. Words stand between spaces and tabs, and a line whose first word begins with `#` is a
+//! comment.
 #![tactic(auto)]
 
 mod accepted;
@@ -11,8 +13,10 @@ mod examples;
 mod fault;
 mod fields;
 mod form;
+mod function_form;
 mod history;
 mod job;
+mod limits;
 mod lines;
 mod names;
 mod numbers;
@@ -22,6 +26,7 @@ mod reads;
 #[cfg(test)]
 mod tests;
 mod tree_form;
+mod verb;
 mod writers;
 
 pub use command::Command;

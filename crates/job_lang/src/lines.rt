@@ -1,6 +1,8 @@
 ghost use Rattle.std.specs.Prelude.{◌≡◌, ◌∷◌, [], ◌<◌, ◌==◌, IfOk, MatchOption, IfSome, length, map, position};
 ghost use Rattle.std.specs.Str.Lines.{lines, strip_carriage_return};
+ghost use Rattle.std.specs.List.{list_all};
 ghost use Rattle.job_lang.specs.Lines.{words, is_passed_over};
+ghost use Rattle.job_lang.specs.Reading.{is_allowed};
 
 use std::alloc::{AllocError, Global};
 
@@ -43,6 +45,20 @@ pub fn words_of(alloc: Global, line: &[u8]) -> Result<Vec<&[u8]>, AllocError>
     line.split(|byte| *byte == b' ' || *byte == b'\t')
         .filter(|word| !word.is_empty())
         .collect(alloc)
+}
+
+// A tab, or a byte from 32 to 126.
+fn is_allowed(byte: u8) -> bool
+    ensures { result ≡ is_allowed byte }
+{
+    byte == b'\t' || (byte >= 32 && byte <= 126)
+}
+
+/// Whether each byte is a tab or from 32 to 126.
+pub fn has_allowed_bytes(line: &[u8]) -> bool
+    ensures { result ≡ list_all is_allowed line.now }
+{
+    line.iter().all(|byte| is_allowed(*byte))
 }
 
 /// Whether a line of these words is passed over: it has none, or is a comment.

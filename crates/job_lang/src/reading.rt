@@ -2,17 +2,17 @@ ghost use Rattle.std.specs.Prelude.{◌≡◌, ◌+◌, ◌<◌, ◌≤◌, ◌^
 ghost use Rattle.std.specs.Str.Lines.{lines};
 ghost use Rattle.tree_model.specs.Functions.{max_depth};
 ghost use Rattle.job_lang.specs.declared.fault.JobFault.{JobFault as FaultData};
-ghost use Rattle.job_lang.specs.Reading.{header_from, commands_from, reading_of};
+ghost use Rattle.job_lang.specs.Lines.{words as line_words};
+ghost use Rattle.job_lang.specs.Reading.{header_from, commands_from, depth_of_line, reading_of};
+ghost use Rattle.job_lang.specs.Slices.{texts};
 
 use crate::accepted::Accepted;
-use crate::fault::JobFault;
+use crate::fault::{BYTE_FAULT, HEADER_FAULT, JobFault};
 use crate::form::header_of;
 use crate::job::Job;
-use crate::lines::{is_passed_over, next_line, words_of};
+use crate::lines::{has_allowed_bytes, is_passed_over, next_line, words_of};
 use crate::parse_error::ParseError;
 use std::alloc::Global;
-
-const HEADER_FAULT: u8 = 2;
 
 /// What the header tells, and the text behind it.
 #[derive(Clone, Copy)]
@@ -20,6 +20,21 @@ struct Header<'a> {
     depth: u8,
     number: u64,
     rest: &'a [u8],
+}
+
+// The depth that a line tells as the header, or the lowest kind of fault that it has.
+fn depth_of_line(line: &[u8], words: &[&[u8]]) -> Result<u8, u8>
+    requires { texts words.now ≡ line_words line.now }
+    ensures value { result ≡ depth_of_line line.now }
+    ensures small { IfOk result (λ depth. depth ≤ max_depth) }
+{
+    if !has_allowed_bytes(line) {
+        return Err(BYTE_FAULT);
+    }
+    match header_of(words) {
+        Some(depth) => Ok(depth),
+        None => Err(HEADER_FAULT),
+    }
 }
 
 // The first line that isn't passed over has to be the header.
@@ -36,14 +51,14 @@ fn header_from(alloc: Global, text: &[u8]) -> Result<Header, ParseError>
     while let Some((line, behind)) = next_line(rest) {
         let words = words_of(alloc, line)?;
         if !is_passed_over(&words) {
-            let Some(depth) = header_of(&words) else {
-                break;
+            return match depth_of_line(line, &words) {
+                Ok(depth) => Ok(Header {
+                    depth,
+                    number: number + 1,
+                    rest: behind,
+                }),
+                Err(kind) => Err(ParseError::Fault(JobFault { line: number, kind })),
             };
-            return Ok(Header {
-                depth,
-                number: number + 1,
-                rest: behind,
-            });
         }
         rest = behind;
         number += 1;
@@ -78,7 +93,7 @@ fn commands_from(alloc: Global, depth: u8, number: u64, text: &[u8]) -> Result<A
 ///
 /// # Errors
 ///
-/// `Fault` where the text isn't a job, with the first line that has a fault; `OutOfMemory` where there is no memory left.
+/// `Fault` where the text isn't a job, with the first line that has a fault and its lowest kind; `OutOfMemory` where there is no memory left.
 pub fn parse(alloc: Global, bytes: &[u8]) -> Result<Job, ParseError>
     ensures job { IfOk result (λ job. reading_of bytes.now ≡ Ok job) }
     ensures fault { (fault : FaultData) → result ≡ Err (ParseError.Fault fault) →

@@ -51,9 +51,9 @@ fn finds_the_header(rt: HostRuntime) {
         (b"\n\n", fault(3, 2)),
         (b"job 1 depth 16", Ok((16, 0))),
         (b"job 1 depth 17\n", fault(1, 2)),
-        (b"job 1 depth 2 \xff\n", fault(1, 2)),
+        (b"job 1 depth 2 \xff\n", fault(1, 1)),
         (b"# \xff\x00\xc3\x28\njob 1 depth 2\n#\xff", Ok((2, 0))),
-        (b"job 1 depth 2\nfence\njob 1 depth 2\n", fault(2, 3)),
+        (b"job 1 depth 2\nfence\njob 1 depth 2\n", fault(3, 3)),
     ];
     expect_outcomes(&rt, rt.alloc(), &cases);
 }
@@ -69,9 +69,9 @@ fn reads_lines_and_words(rt: HostRuntime) {
         (line_feeds, Ok((2, 2))),
         (returns, Ok((2, 2))),
         (tabs, Ok((2, 2))),
-        (return_at_end, fault(3, 3)),
-        (not_ascii, fault(2, 3)),
-        (b"job 1 depth 2\nprint f\n", fault(2, 3)),
+        (return_at_end, fault(3, 1)),
+        (not_ascii, fault(2, 1)),
+        (b"job 1 depth 2\nprint f\n", fault(2, 6)),
     ];
     expect_outcomes(&rt, rt.alloc(), &cases);
 }
@@ -81,9 +81,34 @@ fn refuses_one_command_too_many(rt: HostRuntime) -> Result<(), Fail> {
     let alloc = rt.alloc();
     let line = b"project f const 1 level 0 tol 0\n";
     assert_eq!(rt; outcome(alloc, &repeated(alloc, line, 32)?), Ok((0, 32)));
-    assert_eq!(rt; outcome(alloc, &repeated(alloc, line, 33)?), fault(34, 3));
+    assert_eq!(rt; outcome(alloc, &repeated(alloc, line, 33)?), fault(34, 8));
+    assert_eq!(rt;
+        outcome(alloc, &repeated(alloc, b"fence\n", 512)?),
+        Ok((0, 512))
+    );
+    assert_eq!(rt;
+        outcome(alloc, &repeated(alloc, b"fence\n", 513)?),
+        fault(514, 5)
+    );
     assert_eq!(rt; outcome(alloc, &trees(alloc, 16)?), Ok((0, 16)));
-    assert_eq!(rt; outcome(alloc, &trees(alloc, 17)?), fault(18, 3));
+    assert_eq!(rt; outcome(alloc, &trees(alloc, 17)?), fault(18, 5));
+    Ok(())
+}
+
+// A header, a tree, and so many times a fence and a `print` of the tree.
+fn prints(alloc: Global, count: u32) -> Result<Vec<u8>, AllocError> {
+    let mut text = b"job 1 depth 0\nproject f const 1 level 0 tol 0\n".to_vec(alloc)?;
+    for _ in 0..count {
+        text.extend_from_slice(b"fence\nprint f\n")?;
+    }
+    Ok(text)
+}
+
+#[test]
+fn refuses_one_print_too_many(rt: HostRuntime) -> Result<(), Fail> {
+    let alloc = rt.alloc();
+    assert_eq!(rt; outcome(alloc, &prints(alloc, 64)?), Ok((0, 129)));
+    assert_eq!(rt; outcome(alloc, &prints(alloc, 65)?), fault(132, 5));
     Ok(())
 }
 
@@ -151,56 +176,40 @@ fn project(alloc: Global, name: &[u8]) -> Result<Command, OutOfMemory> {
     })
 }
 
-fn add(alloc: Global, factor: i64) -> Result<Command, OutOfMemory> {
-    Ok(Command::Add {
-        name: text(alloc, b"f")?,
-        left_factor: factor,
-        left: text(alloc, b"f")?,
-        right_factor: -factor,
-        right: text(alloc, b"f")?,
-    })
-}
-
 fn compress(alloc: Global, name: &[u8]) -> Result<Command, OutOfMemory> {
     let name = text(alloc, name)?;
     Ok(Command::Compress { name })
 }
 
-// Whether commands make a job at depth 2.
-fn is_job(commands: Vec<Command>) -> bool {
-    Job::of_commands(2, commands).is_some()
+fn double(alloc: Global, factor: i64) -> Result<Command, OutOfMemory> {
+    Ok(Command::Add {
+        name: text(alloc, b"f")?,
+        left_factor: factor,
+        left: text(alloc, b"f")?,
+        right_factor: 0,
+        right: text(alloc, b"f")?,
+    })
+}
+
+// Whether a projection, `compress` of a name and a sum make a job at depth 2.
+fn is_job(alloc: Global, name: &[u8], factor: i64) -> Result<bool, OutOfMemory> {
+    let mut commands = Vec::new(alloc);
+    commands.push(project(alloc, b"f")?)?;
+    commands.push(compress(alloc, name)?)?;
+    commands.push(double(alloc, factor)?)?;
+    Ok(Job::of_commands(2, commands).is_some())
 }
 
 #[test]
 fn makes_jobs_of_commands(rt: HostRuntime) -> Result<(), Fail> {
-    let alloc = rt.alloc();
-    let commands = vec![in alloc;
-        project(alloc, b"f")?,
-        compress(alloc, b"f")?,
-        add(alloc, 1 << 20)?,
-    ]?;
-    assert!(rt; is_job(commands));
-    let too_large = vec![in alloc;
-        project(alloc, b"f")?,
-        compress(alloc, b"f")?,
-        add(alloc, (1 << 20) + 1)?,
-    ]?;
-    assert!(rt; !is_job(too_large));
-    let not_compressed = vec![in alloc; project(alloc, b"f")?, add(alloc, 1)?]?;
-    assert!(rt; !is_job(not_compressed));
-    let compressed_twice = vec![in alloc;
-        project(alloc, b"f")?,
-        compress(alloc, b"f")?,
-        compress(alloc, b"f")?,
-    ]?;
-    assert!(rt; !is_job(compressed_twice));
-    let unknown = vec![in alloc; project(alloc, b"f")?, compress(alloc, b"g")?]?;
-    assert!(rt; !is_job(unknown));
-    let no_name = vec![in alloc; project(alloc, b"F")?]?;
-    assert!(rt; !is_job(no_name));
-    let fence = vec![in alloc; Command::Fence]?;
-    assert!(rt; Job::of_commands(16, fence).is_some());
-    let too_deep = vec![in alloc; Command::Fence]?;
-    assert!(rt; Job::of_commands(17, too_deep).is_none());
+    let cases = [
+        (b"f", 1 << 20, true),
+        (b"f", (1 << 20) + 1, false),
+        (b"g", 1, false),
+        (b"F", 1, false),
+    ];
+    for (name, factor, want) in cases {
+        assert_eq!(rt; is_job(rt.alloc(), name, factor)?, want, "at {name:?}");
+    }
     Ok(())
 }

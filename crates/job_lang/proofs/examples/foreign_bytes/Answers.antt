@@ -7,5 +7,11 @@ returns-clause-in_header c = refl
 pub returns-clause-in_a_command : goal.returns-clause-in_a_command
 returns-clause-in_a_command c = refl
 
+pub returns-clause-last_printable : goal.returns-clause-last_printable
+returns-clause-last_printable c = refl
+
+pub returns-clause-delete : goal.returns-clause-delete
+returns-clause-delete c = refl
+
 pub returns-clause-in_a_comment : goal.returns-clause-in_a_comment
 returns-clause-in_a_comment c = refl

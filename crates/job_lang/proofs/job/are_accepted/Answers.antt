@@ -1,6 +1,5 @@
 use Rattle.std.proofs.Common.{map, sym, take, ◌∙◌}
 use Rattle.job_lang.specs.Data.{data_of}
-use Rattle.job_lang.specs.Recalls.{Recalls}
 use Rattle.job_lang.proofs.CheckLaws.{are_accepted-more, are_accepted-refused, follows-accepted, map-take-more}
 use Rattle.job_lang.proofs.job.are_accepted.Goals as goal
 

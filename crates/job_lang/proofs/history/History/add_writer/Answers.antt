@@ -1,4 +1,4 @@
-use Rattle.std.proofs.Common.{◌≡◌, ◌<◌, ◌∙◌, sym, arith, length, map, take, length-take}
+use Rattle.std.proofs.Common.{◌<◌, ◌∙◌, sym, arith, length, map, take, length-take}
 use Rattle.std.proofs.Math.Seq.{take-set-lt}
 use Rattle.std.proofs.lemmas.List.{take_more_set, length-map}
 use Rattle.std.proofs.lemmas.List.Quantifiers.{position-Some}
