@@ -67,7 +67,7 @@ fn jobs_and_faults(rt: HostRuntime) -> Result<(), Fail> {
         (
             b"job 1 depth 1\n\n# f isn't written\nprint f\n",
             2,
-            b"fault line 4 F3 unknown command\n",
+            b"fault line 4 F6 unknown tree\n",
         ),
         (
             b"job 1 depth 1\nproject f ramp 0 16777216 level 0 tol 0\n",
@@ -77,7 +77,7 @@ fn jobs_and_faults(rt: HostRuntime) -> Result<(), Fail> {
         (
             b"job 1 depth 1\nproject f ramp 0 16777217 level 0 tol 0\n",
             2,
-            b"fault line 2 F3 unknown command\n",
+            b"fault line 2 F5 limit\n",
         ),
     ];
     for (input, status, text) in cases {
