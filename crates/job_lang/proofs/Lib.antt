@@ -5,3 +5,5 @@ pub mod WriterLaws
 pub mod HistoryLaws
 pub mod LimitLaws
 pub mod ReadLaws
+pub mod WordLaws
+pub mod CanonicalLaws

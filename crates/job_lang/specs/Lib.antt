@@ -13,3 +13,4 @@ pub mod Writers
 pub mod Recalls
 pub mod Accepted
 pub mod Faults
+pub mod Canonical

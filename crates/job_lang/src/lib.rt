@@ -8,6 +8,7 @@
 #![tactic(auto)]
 
 mod accepted;
+mod canonical;
 mod command;
 mod examples;
 mod fault;
@@ -29,6 +30,7 @@ mod tree_form;
 mod verb;
 mod writers;
 
+pub use canonical::print;
 pub use command::Command;
 pub use fault::JobFault;
 pub use job::Job;

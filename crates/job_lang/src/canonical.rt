@@ -1,0 +1,187 @@
+//! The canonical text of a job.
+ghost use Rattle.std.specs.Prelude.{◌≡◌, ◌++◌, ◌∷◌, [], codes, decimal, IfOk, OnOk};
+ghost use Rattle.std.specs.Fmt.{signed_decimal};
+ghost use Rattle.haar_node.specs.Func.{function_of};
+ghost use Rattle.job_lang.specs.Canonical.{canonical_text, command_text, command_words, function_words, header_words, line_of, spaced};
+ghost use Rattle.job_lang.specs.Data.{data_of};
+ghost use Rattle.job_lang.specs.Reading.{reading_of};
+
+use crate::command::Command;
+use crate::job::Job;
+use haar_node::Func;
+use itoa::Buffer;
+use std::alloc::Global;
+use tree_key::{OutOfMemory, Text};
+
+// Adds a space and a word.
+fn add_word(text: &mut Text, word: &[u8]) -> Result<(), OutOfMemory>
+    ensures { OnOk result (text.new ≡ text.old ++ 32 ∷ word.now) }
+{
+    text.add(b" ")?;
+    text.add(word)
+}
+
+// Adds a space and a number with its sign.
+fn add_number(text: &mut Text, number: i64) -> Result<(), OutOfMemory>
+    ensures { OnOk result (text.new ≡ text.old ++ 32 ∷ signed_decimal number) }
+{
+    let mut buffer = Buffer::new();
+    add_word(text, buffer.format(number).as_bytes())
+}
+
+// Adds a space and a number.
+fn add_size(text: &mut Text, size: u32) -> Result<(), OutOfMemory>
+    ensures { OnOk result (text.new ≡ text.old ++ 32 ∷ decimal size) }
+{
+    let mut buffer = Buffer::new();
+    add_word(text, buffer.format(size).as_bytes())
+}
+
+// Adds the words of a function, each behind a space.
+fn add_function(text: &mut Text, function: &Func) -> Result<(), OutOfMemory>
+    ensures { OnOk result (text.new ≡ text.old ++ spaced (function_words (function_of function.now))) }
+{
+    match *function {
+        Func::Const(constant) => {
+            add_word(text, b"const")?;
+            add_number(text, constant)
+        }
+        Func::Ramp(start, slope) => {
+            add_word(text, b"ramp")?;
+            add_number(text, start)?;
+            add_number(text, slope)
+        }
+        Func::Step(edge, before, behind) => {
+            add_word(text, b"step")?;
+            add_size(text, edge)?;
+            add_number(text, before)?;
+            add_number(text, behind)
+        }
+        Func::Box(start, end, value) => {
+            add_word(text, b"box")?;
+            add_size(text, start)?;
+            add_size(text, end)?;
+            add_number(text, value)
+        }
+        Func::Hash(seed, modulus) => {
+            add_word(text, b"hash")?;
+            add_size(text, seed)?;
+            add_size(text, modulus)
+        }
+    }
+}
+
+// Adds `level N tol T`, each word behind a space.
+fn add_limits(text: &mut Text, level: u8, tolerance: u32) -> Result<(), OutOfMemory>
+    ensures { OnOk result (text.new ≡ text.old ++ spaced (codes "level" ∷ decimal level ∷ codes "tol" ∷ decimal tolerance ∷ [])) }
+{
+    add_word(text, b"level")?;
+    add_size(text, u32::from(level))?;
+    add_word(text, b"tol")?;
+    add_size(text, tolerance)
+}
+
+// Adds `A NAME`, each word behind a space.
+fn add_term(text: &mut Text, factor: i64, name: &[u8]) -> Result<(), OutOfMemory>
+    ensures { OnOk result (text.new ≡ text.old ++ spaced (signed_decimal factor ∷ name.now ∷ [])) }
+{
+    add_number(text, factor)?;
+    add_word(text, name)
+}
+
+// Adds a verb, and a name behind a space.
+fn add_named(text: &mut Text, verb: &[u8], name: &[u8]) -> Result<(), OutOfMemory>
+    ensures { OnOk result (text.new ≡ text.old ++ line_of (verb.now ∷ name.now ∷ [])) }
+{
+    text.add(verb)?;
+    add_word(text, name)
+}
+
+// Adds the words of a command, with single spaces between them.
+fn add_words(text: &mut Text, command: &Command) -> Result<(), OutOfMemory>
+    ensures { OnOk result (text.new ≡ text.old ++ line_of (command_words (data_of command.now))) }
+{
+    match command {
+        Command::Project {
+            name,
+            function,
+            level,
+            tolerance,
+        } => {
+            add_named(text, b"project", name.bytes())?;
+            add_function(text, function)?;
+            add_limits(text, *level, *tolerance)
+        }
+        Command::Refine { name, level } => {
+            add_named(text, b"refine", name.bytes())?;
+            add_size(text, u32::from(*level))
+        }
+        Command::Compress { name } => add_named(text, b"compress", name.bytes()),
+        Command::Reconstruct { name } => add_named(text, b"reconstruct", name.bytes()),
+        Command::Add {
+            name,
+            left_factor,
+            left,
+            right_factor,
+            right,
+        } => {
+            add_named(text, b"add", name.bytes())?;
+            add_word(text, b"=")?;
+            add_term(text, *left_factor, left.bytes())?;
+            add_word(text, b"+")?;
+            add_term(text, *right_factor, right.bytes())
+        }
+        Command::Mul { name, left, right } => {
+            add_named(text, b"mul", name.bytes())?;
+            add_word(text, b"=")?;
+            add_word(text, left.bytes())?;
+            add_word(text, b"*")?;
+            add_word(text, right.bytes())
+        }
+        Command::Inner { left, right } => {
+            add_named(text, b"inner", left.bytes())?;
+            add_word(text, right.bytes())
+        }
+        Command::Print { name } => add_named(text, b"print", name.bytes()),
+        Command::Fence => text.add(b"fence"),
+    }
+}
+
+// Adds the line of a command.
+fn add_command(text: &mut Text, command: &Command) -> Result<(), OutOfMemory>
+    ensures { OnOk result (text.new ≡ text.old ++ command_text (data_of command.now)) }
+{
+    add_words(text, command)?;
+    text.add(b"\n")
+}
+
+// Adds the words of the header, with single spaces between them.
+fn add_header_words(text: &mut Text, depth: u8) -> Result<(), OutOfMemory>
+    ensures { OnOk result (text.new ≡ text.old ++ line_of (header_words depth)) }
+{
+    add_named(text, b"job", b"1")?;
+    add_word(text, b"depth")?;
+    add_size(text, u32::from(depth))
+}
+
+// Adds the header's line.
+fn add_header(text: &mut Text, depth: u8) -> Result<(), OutOfMemory>
+    ensures { OnOk result (text.new ≡ text.old ++ (line_of (header_words depth) ++ codes "\n")) }
+{
+    add_header_words(text, depth)?;
+    text.add(b"\n")
+}
+
+/// The canonical text of a job: the header and a line for each command, with single spaces, numbers without leading zeros
+/// and without `-0`, and a line feed after each line. [`parse`](crate::parse) reads it as the same job.
+pub fn print(alloc: Global, job: &Job) -> Result<Vec<u8>, OutOfMemory>
+    ensures text { IfOk result (λ bytes. bytes.items ≡ canonical_text job.now) }
+    ensures reads_back { IfOk result (λ bytes. reading_of bytes.items ≡ Ok job.now) }
+{
+    let mut text = Text::new(alloc);
+    add_header(&mut text, job.depth())?;
+    for command in job.commands() {
+        add_command(&mut text, command)?;
+    }
+    Ok(text.into_bytes())
+}
