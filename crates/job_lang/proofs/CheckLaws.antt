@@ -68,6 +68,17 @@ are_accepted-more depth cs c all here = are_accepted-append depth [] cs c ∙ rw
 pub follows-accepted : (depth : ℕ) (cs : List Command) (c : Command) → is_accepted depth cs c ≡ true → may_follow cs c ≡ true
 follows-accepted depth cs c is = (and_parts (is_within_limits depth c) (may_follow cs c) is).1
 
+there : (depth : ℕ) (before xs : List Command) (c : Command) (ys : List Command) → are_accepted depth before (xs ++ c ∷ ys) ≡ true → is_accepted depth (before ++ xs) c ≡ true
+there depth before [] c ys all = rw append-nil (and_parts (is_accepted depth before c) (are_accepted depth (before ++ c ∷ []) ys) all).0
+there depth before (d ∷ xs) c ys all =
+    let rest = and_parts (is_accepted depth before d) (are_accepted depth (before ++ d ∷ []) (xs ++ c ∷ ys)) all in
+    rw append_assoc at (there depth (before ++ d ∷ []) xs c ys rest.1)
+
+-- the command at a place of accepted ones is accepted behind those before it
+pub accepted-there : {A : Type 0} (f : A → Command) (depth : ℕ) (cs : List A) (i : ℕ) (x : A) → i < length cs → x ≡ get_or cs i x → are_accepted depth [] (map f cs) ≡ true → is_accepted depth (map f (take i cs)) (f x) ≡ true
+accepted-there f depth cs i x below is all =
+    there depth [] (map f (take i cs)) (f x) (map f (drop (suc i) cs)) (sym (ap (are_accepted depth []) (cut f cs i x below is)) ∙ all)
+
 -- each command of accepted ones is accepted behind those before it, and so it is within its limits
 pub are_accepted-at : (depth : ℕ) (before cs : List Command) (i : ℕ) (d : Command) → are_accepted depth before cs ≡ true → i < length cs → is_accepted depth (before ++ take i cs) (get_or cs i d) ≡ true
 are_accepted-at depth before [] i d all below = absurd (omega arith)

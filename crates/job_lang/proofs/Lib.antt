@@ -7,3 +7,4 @@ pub mod LimitLaws
 pub mod ReadLaws
 pub mod WordLaws
 pub mod CanonicalLaws
+pub mod PlanLaws

@@ -15,7 +15,8 @@ use Rattle.tree_model.specs.Commands.{Command, writes}
 use Rattle.tree_model.specs.Commands.Command.{Project, Refine, Compress, Reconstruct, Add, Mul, Inner, Print, Fence}
 use Rattle.tree_model.specs.Nodes.{Form}
 use Rattle.job_lang.specs.Checks.{written_name, written_form, form_after, form_behind, is_written, brings_tree, trees_behind, has_room, is_print, max_commands, max_trees, max_prints}
-use Rattle.job_lang.specs.Writers.{command_at, form_at, with_writer, AreLastWriters}
+use Rattle.job_lang.specs.Versions.{version_from, version_behind}
+use Rattle.job_lang.specs.Writers.{command_at, told_at, form_at, with_writer, AreLastWriters}
 use Rattle.job_lang.proofs.CheckLaws.{trees_behind-append}
 use Rattle.job_lang.proofs.Positions.{position-None}
 
@@ -61,20 +62,20 @@ command_at-longer : (cs : List Command) (c : Command) (w : ℕ) → w < length c
 command_at-longer cs c w below = get_or_append_left cs (c ∷ []) Fence w below
 
 -- one more command that is the writer at none of the places changes nothing
-form_at-longer : (cs : List Command) (ws : List ℕ) (name : List ℕ) (c : Command) → All (λ w. w < length cs) ws → form_at (cs ++ c ∷ []) ws name ≡ form_at cs ws name
-form_at-longer cs [] name c all = refl
-form_at-longer cs (w ∷ ws) name c all =
-    ap (λ d. if writes name d then written_form d else form_at (cs ++ c ∷ []) ws name) (command_at-longer cs c w (all zero 0 (omega arith)))
-    ∙ ap (λ form. if writes name (command_at cs w) then written_form (command_at cs w) else form) (form_at-longer cs ws name c (All-rest (length cs) w ws all))
+told_at-longer : {A : Type 0} (tell : ℕ → Command → A) (none : A) (cs : List Command) (ws : List ℕ) (name : List ℕ) (c : Command) → All (λ w. w < length cs) ws → told_at tell none (cs ++ c ∷ []) ws name ≡ told_at tell none cs ws name
+told_at-longer tell none cs [] name c all = refl
+told_at-longer tell none cs (w ∷ ws) name c all =
+    ap (λ d. if writes name d then tell w d else told_at tell none (cs ++ c ∷ []) ws name) (command_at-longer cs c w (all zero 0 (omega arith)))
+    ∙ ap (λ r. if writes name (command_at cs w) then tell w (command_at cs w) else r) (told_at-longer tell none cs ws name c (All-rest (length cs) w ws all))
 
 within-cons : (n w : ℕ) (ws : List ℕ) → w < n → All (λ p. p < n) ws → All (λ p. p < n) (w ∷ ws)
 within-cons n w ws first rest = λ k d below. elim k as (λ k. k < suc (length ws) → get_or (w ∷ ws) k d < n) [ zero ↦ λ _. first | suc j ↦ λ h. rest j d (omega arith) ] below
 
-same_test : (a b : Bool) (x y z : Option Form) → b ≡ a → (if a then x else z) ≡ (if a then x else (if b then y else z))
+same_test : {A : Type 0} (a b : Bool) (x y z : A) → b ≡ a → (if a then x else z) ≡ (if a then x else (if b then y else z))
 same_test true b x y z is = refl
 same_test false b x y z is = rw is refl
 
-swapped : (a b : Bool) (x y z : Option Form) → (a ≡ true → b ≡ false) → (if b then y else (if a then x else z)) ≡ (if a then x else (if b then y else z))
+swapped : {A : Type 0} (a b : Bool) (x y z : A) → (a ≡ true → b ≡ false) → (if b then y else (if a then x else z)) ≡ (if a then x else (if b then y else z))
 swapped true b x y z apart = rw (apart refl) refl
 swapped false b x y z apart = refl
 
@@ -84,32 +85,54 @@ with_true cs ws n w last is = rw is refl
 with_false : (cs : List Command) (ws n : List ℕ) (w last : ℕ) → writes n (command_at cs w) ≡ false → with_writer cs (w ∷ ws) n last ≡ w ∷ with_writer cs ws n last
 with_false cs ws n w last is = rw is refl
 
+-- what is told behind one more command that writes
+abbrev told_after : {A : Type 0} → (ℕ → Command → A) → A → List Command → List ℕ → List ℕ → Command → A
+told_after tell none cs ws name c = if writes name c then tell (length cs) c else told_at tell none cs ws name
+
 -- the writer of the name stands at the first place
-replaced : (cs : List Command) (ws n : List ℕ) (c : Command) (name : List ℕ) (w : ℕ) → All (λ w. w < length cs) (w ∷ ws) → writes n c ≡ true → writes n (command_at cs w) ≡ true → form_at (cs ++ c ∷ []) (with_writer cs (w ∷ ws) n (length cs)) name ≡ form_after name (form_at cs (w ∷ ws) name) c
-replaced cs ws n c name w all is here =
-    ap (λ places. form_at (cs ++ c ∷ []) places name) (with_true cs ws n w (length cs) here)
-    ∙ ap (λ d. if writes name d then written_form d else form_at (cs ++ c ∷ []) ws name) (get_or_push cs c Fence (length cs) refl)
-    ∙ ap (λ form. if writes name c then written_form c else form) (form_at-longer cs ws name c (All-rest (length cs) w ws all))
-    ∙ same_test (writes name c) (writes name (command_at cs w)) (written_form c) (written_form (command_at cs w)) (form_at cs ws name) (writes-as name n (command_at cs w) here ∙ sym (writes-as name n c is))
+replaced : {A : Type 0} (tell : ℕ → Command → A) (none : A) (cs : List Command) (ws n : List ℕ) (c : Command) (name : List ℕ) (w : ℕ) → All (λ w. w < length cs) (w ∷ ws) → writes n c ≡ true → writes n (command_at cs w) ≡ true → told_at tell none (cs ++ c ∷ []) (with_writer cs (w ∷ ws) n (length cs)) name ≡ told_after tell none cs (w ∷ ws) name c
+replaced tell none cs ws n c name w all is here =
+    ap (λ places. told_at tell none (cs ++ c ∷ []) places name) (with_true cs ws n w (length cs) here)
+    ∙ ap (λ d. if writes name d then tell (length cs) d else told_at tell none (cs ++ c ∷ []) ws name) (get_or_push cs c Fence (length cs) refl)
+    ∙ ap (λ r. if writes name c then tell (length cs) c else r) (told_at-longer tell none cs ws name c (All-rest (length cs) w ws all))
+    ∙ same_test (writes name c) (writes name (command_at cs w)) (tell (length cs) c) (tell w (command_at cs w)) (told_at tell none cs ws name) (writes-as name n (command_at cs w) here ∙ sym (writes-as name n c is))
 
 -- the first place is that of another writer
-kept : (cs : List Command) (ws n : List ℕ) (c : Command) (name : List ℕ) (w : ℕ) → All (λ w. w < length cs) (w ∷ ws) → writes n c ≡ true → writes n (command_at cs w) ≡ false → form_at (cs ++ c ∷ []) (with_writer cs ws n (length cs)) name ≡ form_after name (form_at cs ws name) c → form_at (cs ++ c ∷ []) (with_writer cs (w ∷ ws) n (length cs)) name ≡ form_after name (form_at cs (w ∷ ws) name) c
-kept cs ws n c name w all is here rest =
-    ap (λ places. form_at (cs ++ c ∷ []) places name) (with_false cs ws n w (length cs) here)
-    ∙ ap (λ d. if writes name d then written_form d else form_at (cs ++ c ∷ []) (with_writer cs ws n (length cs)) name) (command_at-longer cs c w (all zero 0 (omega arith)))
-    ∙ ap (λ form. if writes name (command_at cs w) then written_form (command_at cs w) else form) rest
-    ∙ swapped (writes name c) (writes name (command_at cs w)) (written_form c) (written_form (command_at cs w)) (form_at cs ws name)
+kept : {A : Type 0} (tell : ℕ → Command → A) (none : A) (cs : List Command) (ws n : List ℕ) (c : Command) (name : List ℕ) (w : ℕ) → All (λ w. w < length cs) (w ∷ ws) → writes n c ≡ true → writes n (command_at cs w) ≡ false → told_at tell none (cs ++ c ∷ []) (with_writer cs ws n (length cs)) name ≡ told_after tell none cs ws name c → told_at tell none (cs ++ c ∷ []) (with_writer cs (w ∷ ws) n (length cs)) name ≡ told_after tell none cs (w ∷ ws) name c
+kept tell none cs ws n c name w all is here rest =
+    ap (λ places. told_at tell none (cs ++ c ∷ []) places name) (with_false cs ws n w (length cs) here)
+    ∙ ap (λ d. if writes name d then tell w d else told_at tell none (cs ++ c ∷ []) (with_writer cs ws n (length cs)) name) (command_at-longer cs c w (all zero 0 (omega arith)))
+    ∙ ap (λ r. if writes name (command_at cs w) then tell w (command_at cs w) else r) rest
+    ∙ swapped (writes name c) (writes name (command_at cs w)) (tell (length cs) c) (tell w (command_at cs w)) (told_at tell none cs ws name)
     (λ yes. let equal = same_name name n (sym (writes-as name n c is) ∙ yes) in subst (λ m. writes m (command_at cs w) ≡ false) (sym equal) here)
 
 -- a new writer of a name leaves the other names theirs
-pub form_at-with : (cs : List Command) (ws n : List ℕ) (c : Command) (name : List ℕ) → All (λ w. w < length cs) ws → writes n c ≡ true → form_at (cs ++ c ∷ []) (with_writer cs ws n (length cs)) name ≡ form_after name (form_at cs ws name) c
-form_at-with cs [] n c name all is =
-    ap (λ d. if writes name d then written_form d else None) (get_or_push cs c Fence (length cs) refl)
-form_at-with cs (w ∷ ws) n c name all is =
-    elim (writes n (command_at cs w)) as (λ b. writes n (command_at cs w) ≡ b → form_at (cs ++ c ∷ []) (with_writer cs (w ∷ ws) n (length cs)) name ≡ form_after name (form_at cs (w ∷ ws) name) c) [
-      | true ↦ λ here. replaced cs ws n c name w all is here
-      | false ↦ λ here. kept cs ws n c name w all is here (form_at-with cs ws n c name (All-rest (length cs) w ws all) is)
+told_at-with : {A : Type 0} (tell : ℕ → Command → A) (none : A) (cs : List Command) (ws n : List ℕ) (c : Command) (name : List ℕ) → All (λ w. w < length cs) ws → writes n c ≡ true → told_at tell none (cs ++ c ∷ []) (with_writer cs ws n (length cs)) name ≡ told_after tell none cs ws name c
+told_at-with tell none cs [] n c name all is =
+    ap (λ d. if writes name d then tell (length cs) d else none) (get_or_push cs c Fence (length cs) refl)
+told_at-with tell none cs (w ∷ ws) n c name all is =
+    elim (writes n (command_at cs w)) as (λ b. writes n (command_at cs w) ≡ b → told_at tell none (cs ++ c ∷ []) (with_writer cs (w ∷ ws) n (length cs)) name ≡ told_after tell none cs (w ∷ ws) name c) [
+      | true ↦ λ here. replaced tell none cs ws n c name w all is here
+      | false ↦ λ here. kept tell none cs ws n c name w all is here (told_at-with tell none cs ws n c name (All-rest (length cs) w ws all) is)
     ] refl
+
+abbrev tell_form : ℕ → Command → Option Form
+tell_form place command = written_form command
+
+abbrev tell_version : ℕ → Command → ℕ
+tell_version place command = place + 1
+
+same_sum : (a b c : ℕ) → c ≡ a + b → c ≡ a + b
+same_sum a b c is = is
+
+version_from-push : (number last : ℕ) (cs : List Command) (c : Command) (name : List ℕ) → version_from number last (cs ++ c ∷ []) name ≡ (if writes name c then number + length cs else version_from number last cs name)
+version_from-push number last [] c name = ap (λ k. if writes name c then k else last) (same_sum number 0 number (omega arith))
+version_from-push number last (d ∷ ds) c name =
+    version_from-push (number + 1) (if writes name d then number else last) ds c name
+    ∙ ap (λ k. if writes name c then k else version_from (number + 1) (if writes name d then number else last) ds name) (same_sum number (suc (length ds)) (number + 1 + length ds) (omega arith))
+
+version_behind-push : (cs : List Command) (c : Command) (name : List ℕ) → version_behind (cs ++ c ∷ []) name ≡ (if writes name c then length cs + 1 else version_behind cs name)
+version_behind-push cs c name = version_from-push 1 0 cs c name ∙ ap (λ k. if writes name c then k else version_behind cs name) (same_sum (length cs) 1 (1 + length cs) (omega arith))
 
 -- one place more exactly where the name is new
 length-with_writer : (cs : List Command) (ws n : List ℕ) (last : ℕ) → length (with_writer cs ws n last) ≡ length ws + (if is_some (form_at cs ws n) then 0 else 1)
@@ -173,7 +196,8 @@ AreLastWriters-with cs ws n c before is = record {
       ∙ ap (λ k. length ws + k) (none_or_one (is_some (form_behind cs n)) ∙ ap one_where (sym (brought cs n c is)))
       ∙ ap (λ k. k + one_where (brings_tree cs c)) before.count
       ∙ sym (trees_behind-append [] cs c);
-  forms = λ name. form_behind-push cs c name ∙ ap (λ form. form_after name form c) (before.forms name) ∙ sym (form_at-with cs ws n c name before.within (writer n c is));
+  forms = λ name. form_behind-push cs c name ∙ ap (λ form. form_after name form c) (before.forms name) ∙ sym (told_at-with tell_form None cs ws n c name before.within (writer n c is));
+  versions = λ name. version_behind-push cs c name ∙ ap (λ k. if writes name c then length cs + 1 else k) (before.versions name) ∙ sym (told_at-with tell_version 0 cs ws n c name before.within (writer n c is));
 }
 
 not_written : (name : List ℕ) (c : Command) → written_name c ≡ None → writes name c ≡ false
@@ -188,7 +212,12 @@ AreLastWriters-same cs ws c before is = record {
       form_behind-push cs c name
       ∙ ap (λ b. if b then written_form c else form_behind cs name) (not_written name c is)
       ∙ before.forms name
-      ∙ sym (form_at-longer cs ws name c before.within);
+      ∙ sym (told_at-longer tell_form None cs ws name c before.within);
+  versions = λ name.
+      version_behind-push cs c name
+      ∙ ap (λ b. if b then length cs + 1 else version_behind cs name) (not_written name c is)
+      ∙ before.versions name
+      ∙ sym (told_at-longer tell_version 0 cs ws name c before.within);
 }
 
 -- a place at which the test passes first

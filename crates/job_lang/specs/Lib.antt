@@ -9,6 +9,7 @@ pub mod Reads
 pub mod Slices
 pub mod Limits
 pub mod Code
+pub mod Versions
 pub mod Writers
 pub mod Recalls
 pub mod Accepted

@@ -2,7 +2,7 @@
 use Rattle.std.specs.Prelude.{◌≡◌, ◌≤◌, List, take, count_by}
 use Rattle.tree_model.specs.Commands.{Command}
 use Rattle.job_lang.specs.declared.history.History.{History}
-use Rattle.job_lang.specs.Checks.{is_print, since_fence}
+use Rattle.job_lang.specs.Checks.{is_fence, is_print, since_fence}
 use Rattle.job_lang.specs.Writers.{AreLastWriters}
 
 -- a history is that of these commands
@@ -11,3 +11,4 @@ pub record Recalls (commands : List Command) (history : History) : Type 0 where
   pub writers : AreLastWriters commands (take history.trees history.places)
   pub prints : history.prints ≡ count_by is_print commands
   pub since_fence : history.since_fence ≡ since_fence commands
+  pub fences : history.fences ≡ count_by is_fence commands

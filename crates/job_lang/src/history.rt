@@ -1,14 +1,17 @@
-ghost use Rattle.std.specs.Prelude.{◌≡◌, ◌+◌, ◌≤◌, ◌||◌, [], ◌∷◌, ◌++◌, map, nat_lt, not, take, true, if◌then◌else◌};
+ghost use Rattle.std.specs.Prelude.{◌≡◌, ◌+◌, ◌<◌, ◌≤◌, length, ◌||◌, [], ◌∷◌, ◌++◌, map, nat_lt, not, take, true, if◌then◌else◌};
 ghost use Rattle.std.specs.Option.{option_map};
 ghost use Rattle.job_lang.specs.Checks.{brings_tree, form_behind, has_forms, has_room, has_trees, is_accepted, is_fence, is_near_fence, is_print, is_written, max_commands_before_fence, max_prints, may_follow, suits, trees_behind};
 ghost use Rattle.job_lang.specs.Data.{data_of, form_of};
 ghost use Rattle.job_lang.specs.Reading.{checked_command, unless_fault};
+ghost use Rattle.job_lang.specs.Versions.{step_of, version_behind};
 
 use crate::command::Command;
 use crate::fault::{FENCE_FAULT, FORM_FAULT, LIMIT_FAULT, TREE_FAULT};
 use crate::reads::Reads;
+use crate::sources::Sources;
+use crate::step::Step;
 use crate::tree_form::TreeForm;
-use crate::writers::{form_at, writer_of};
+use crate::writers::{form_at, version_at, writer_of};
 
 const MAX_COMMANDS: usize = 512;
 
@@ -26,6 +29,7 @@ pub struct History {
     trees: usize,
     prints: u32,
     since_fence: u32,
+    fences: u32,
 }
 
 // Whether a form is the one that is needed, if one is.
@@ -49,6 +53,18 @@ fn prints_with(prints: u32, command: &Command) -> u32
         prints + 1
     } else {
         prints
+    }
+}
+
+// The number of fences with one command more.
+fn fences_with(fences: u32, command: &Command) -> u32
+    requires { fences < 512 }
+    ensures { result ≡ fences + (if is_fence (data_of command.now) then 1 else 0) }
+{
+    if command.is_fence() {
+        fences + 1
+    } else {
+        fences
     }
 }
 
@@ -77,6 +93,7 @@ impl History {
             trees: 0,
             prints: 0,
             since_fence: 0,
+            fences: 0,
         }
     }
 
@@ -202,6 +219,37 @@ impl History {
         None
     }
 
+    // The version that a name has behind the commands, or 0.
+    fn version_behind(&self, before: &[Command], name: &[u8]) -> u32
+        requires recalls { Recalls (map data_of before.now) self.now }
+        requires few { length before.now < 512 }
+        ensures { result ≡ version_behind (map data_of before.now) name.now }
+    {
+        version_at(before, &self.places[..self.trees], name)
+    }
+
+    /// What a command reads and writes behind the commands, which are fewer than 512.
+    pub fn step_of(&self, before: &[Command], command: &Command) -> Step
+        requires recalls { Recalls (map data_of before.now) self.now }
+        requires few { length before.now < 512 }
+        ensures { result ≡ step_of (map data_of before.now) (data_of command.now) }
+    {
+        let reads = match command.names_read() {
+            Reads::Nothing => Sources::Nothing,
+            Reads::One(name) => Sources::One(self.version_behind(before, name)),
+            Reads::Two(left, right) => Sources::Two(
+                self.version_behind(before, left),
+                self.version_behind(before, right),
+            ),
+        };
+        let number = before.len() as u32 + 1;
+        Step {
+            reads,
+            writes: command.written_name().map(|_| number),
+            fence: self.fences + 1,
+        }
+    }
+
     // Takes note of the writer of a tree, which is to stand behind the commands.
     fn add_writer(&mut self, before: &[Command], command: &Command)
         requires recalls { Recalls (map data_of before.now) self.old }
@@ -211,6 +259,7 @@ impl History {
         ensures within { self.new.trees ≤ 16 }
         ensures prints { self.new.prints ≡ self.old.prints }
         ensures since_fence { self.new.since_fence ≡ self.old.since_fence }
+        ensures fences { self.new.fences ≡ self.old.fences }
     {
         let Some(name) = command.written_name() else {
             return;
@@ -235,6 +284,7 @@ impl History {
         self.add_writer(before, command);
         self.prints = prints_with(self.prints, command);
         self.since_fence = since_fence_with(self.since_fence, command);
+        self.fences = fences_with(self.fences, command);
     }
 
     /// How many trees the commands bring.

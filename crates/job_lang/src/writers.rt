@@ -1,10 +1,10 @@
 //! The last writer of each tree, as places of a list of commands.
-ghost use Rattle.std.specs.Prelude.{◌≡◌, map, position};
+ghost use Rattle.std.specs.Prelude.{◌≡◌, ◌<◌, All, map, position};
 ghost use Rattle.std.specs.Option.{option_map};
 ghost use Rattle.tree_model.specs.Commands.{writes};
 ghost use Rattle.job_lang.specs.Checks.{written_form};
 ghost use Rattle.job_lang.specs.Data.{data_of, form_of};
-ghost use Rattle.job_lang.specs.Writers.{command_at, form_at};
+ghost use Rattle.job_lang.specs.Writers.{command_at, form_at, version_at};
 
 use crate::command::Command;
 use crate::tree_form::TreeForm;
@@ -39,6 +39,19 @@ pub fn form_at(commands: &[Command], places: &[usize], name: &[u8]) -> Option<Tr
         }
     }
     None
+}
+
+/// The number of the command at the first of these places that writes a name, or 0 where none does.
+pub fn version_at(commands: &[Command], places: &[usize], name: &[u8]) -> u32
+    requires { All (λ place. place < 512) places.now }
+    ensures { result ≡ version_at (map data_of commands.now) places.now name.now }
+{
+    for place in places {
+        if writes_at(commands, *place, name) {
+            return *place as u32 + 1;
+        }
+    }
+    0
 }
 
 /// Where the first of these places stands that writes a name.

@@ -1,0 +1,36 @@
+ghost use Rattle.std.specs.Prelude.{◌≡◌, IfOk};
+ghost use Rattle.job_lang.specs.Versions.{plan_of, trace_fits};
+
+use crate::history::History;
+use crate::job::Job;
+use crate::steps::Plan;
+use std::alloc::Global;
+use tree_key::OutOfMemory;
+
+/// For each command of a job the versions that it reads and writes, and the fence that ends it.
+pub fn plan(alloc: Global, job: &Job) -> Result<Plan, OutOfMemory>
+    ensures { IfOk result (λ plan. plan ≡ plan_of job.now) }
+{
+    let _depth = job.depth();
+    let commands = job.commands();
+    let mut history = History::new();
+    let mut steps = Vec::new(alloc);
+    for at in 0..commands.len() {
+        let before = &commands[..at];
+        let command = &commands[at];
+        steps.push(history.step_of(before, command))?;
+        history.add(before, command);
+    }
+    Ok(Plan::new(steps))
+}
+
+const MAX_TRACED_DEPTH: u8 = 10;
+
+const MAX_TRACED_COMMANDS: usize = 64;
+
+/// Whether a job may be traced: its depth is at most 10, and it has at most 64 commands.
+pub fn trace_fits(job: &Job) -> bool
+    ensures { result ≡ trace_fits job.now }
+{
+    job.depth() <= MAX_TRACED_DEPTH && job.commands().len() <= MAX_TRACED_COMMANDS
+}
