@@ -1,5 +1,5 @@
 //! Two threads over values behind a lock, for any application.
-ghost use Rattle.std.specs.Prelude.{◌≡◌, Some, IfSome, IfOk, length};
+ghost use Rattle.std.specs.Prelude.{◌≡◌, [], Some, IfSome, IfOk, OnOk, length};
 ghost use Rattle.std.specs.List.{AllByRecursion};
 ghost use Rattle.app_core.specs.Effects.{IsRightEffect};
 ghost use Rattle.app_core.specs.Inputs.{AreRightInputs};
@@ -11,7 +11,9 @@ use std::marker::Brand;
 use std::sync::{Mutex, Wait};
 use std::thread::{Threads, join};
 
-/// Puts each value that is given into the table, and lets go of the other effects. Each was put, or memory ran out.
+/// Puts each value that is given into the table, and lets go of the other effects. At Ok none is left; that the values
+/// are in the table then isn't proved, since a lock's value is known by its type alone. `OutOfMemory` comes for want
+/// of memory alone, and the effects that weren't come to are left.
 pub fn give<A: App, J: Naming<A>, R: Wait>(
     rt: &R,
     app: &A,
@@ -20,6 +22,7 @@ pub fn give<A: App, J: Naming<A>, R: Wait>(
 ) -> Result<(), OutOfMemory>
     requires named { J.app ≡ Some app.now }
     requires right { AllByRecursion (IsRightEffect (A.right_value app.now) (A.right_cell app.now) (A.is_unit app.now)) effects.old }
+    ensures { OnOk result (effects.new ≡ []) }
 {
     while let Some(effect) = effects.take_first() {
         if let Effect::Give(future, value) = effect {
