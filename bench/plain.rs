@@ -1,18 +1,32 @@
-//! A plain program that does what `world run` does, in stock Rust with std alone: the yardstick of the measurements.
-//! It proves nothing and refuses the same texts with the same lines.
+//! A plain program that does what `world run` does to jobs of `project` (of `const` and `ramp`), `print` and `fence`, in
+//! stock Rust with std alone: the yardstick of the measurements. It proves nothing, and refuses what is wrong with such
+//! jobs with the same lines. Other commands and functions are unknown to it.
 
 use std::collections::{BTreeMap, HashSet};
 use std::io::{self, Read, Write};
 use std::process::ExitCode;
 
 const MAX_INPUT: usize = 1_048_576;
-const MAX_COMMANDS: usize = 32;
+const MAX_COMMANDS: usize = 512;
+const MAX_COMMANDS_BEFORE_FENCE: usize = 32;
 const MAX_TREES: usize = 16;
+const MAX_PRINTS: usize = 64;
 const MAX_VALUE: i64 = 1 << 24;
 const MAX_DIFFERENCE: i64 = 1 << 25;
 
 /// What is refused: the text of the line without its line feed.
 type Refusal = String;
+
+/// What is wrong with a line behind the header: its kind and its name.
+type Fault = (u8, &'static str);
+
+const ASCII: Fault = (1, "byte outside ASCII");
+const HEADER: Fault = (2, "header");
+const UNKNOWN_COMMAND: Fault = (3, "unknown command");
+const WORDS: Fault = (4, "words");
+const LIMIT: Fault = (5, "limit");
+const UNKNOWN_TREE: Fault = (6, "unknown tree");
+const FENCE: Fault = (8, "too many before a fence");
 
 #[derive(Clone, Copy)]
 enum Function {
@@ -50,6 +64,16 @@ struct Projection {
 enum Command<'a> {
     Project(&'a [u8], Projection),
     Print(&'a [u8]),
+    Fence,
+}
+
+/// The commands so far, and what the check of one more needs of them.
+#[derive(Default)]
+struct Accepted<'a> {
+    commands: Vec<Command<'a>>,
+    names: HashSet<&'a [u8]>,
+    prints: usize,
+    since_fence: usize,
 }
 
 /// The leaves of a tree in key order, a key being its level and its place, each with the sum over its box.
@@ -79,8 +103,8 @@ fn number(word: &[u8]) -> Option<i64> {
     }
 }
 
-fn within(word: &[u8], limit: i64) -> Option<i64> {
-    number(word).filter(|number| (0..=limit).contains(number))
+fn within(number: i64, limit: i64) -> bool {
+    (0..=limit).contains(&number)
 }
 
 fn is_name(word: &[u8]) -> bool {
@@ -90,14 +114,18 @@ fn is_name(word: &[u8]) -> bool {
 
 fn depth_of(words: &[&[u8]]) -> Option<u32> {
     match words {
-        [b"job", b"1", b"depth", depth] => Some(within(depth, 16)? as u32),
+        [b"job", b"1", b"depth", depth] => {
+            Some(number(depth).filter(|depth| within(*depth, 16))? as u32)
+        }
         _ => None,
     }
 }
 
-fn command_of<'a>(depth: u32, words: &[&'a [u8]]) -> Option<Command<'a>> {
+/// The command of a line where its words are in a form, and whether its numbers are within their limits.
+fn form_of<'a>(depth: u32, words: &[&'a [u8]]) -> Option<(Command<'a>, bool)> {
     let (name, function, level, tolerance) = match *words {
-        [b"print", name] if is_name(name) => return Some(Command::Print(name)),
+        [b"fence"] => return Some((Command::Fence, true)),
+        [b"print", name] if is_name(name) => return Some((Command::Print(name), true)),
         [
             b"project",
             name,
@@ -118,58 +146,84 @@ fn command_of<'a>(depth: u32, words: &[&'a [u8]]) -> Option<Command<'a>> {
             level,
             b"tol",
             tolerance,
-        ] => (
-            name,
-            Function::Ramp(number(start)?, number(slope)?),
-            level,
-            tolerance,
-        ),
+        ] => {
+            let function = Function::Ramp(number(start)?, number(slope)?);
+            (name, function, level, tolerance)
+        }
         _ => return None,
     };
-    if !is_name(name) || !function.fits(depth) {
-        return None;
+    let (level, tolerance) = (number(level)?, number(tolerance)?);
+    let is_within = function.fits(depth)
+        && within(level, i64::from(depth))
+        && within(tolerance, MAX_DIFFERENCE);
+    let projection = Projection {
+        function,
+        level: level as u32,
+        tolerance: tolerance as u64,
+    };
+    is_name(name).then_some((Command::Project(name, projection), is_within))
+}
+
+fn command_of<'a>(depth: u32, words: &[&'a [u8]], before: &Accepted) -> Result<Command<'a>, Fault> {
+    if !matches!(words[0], b"project" | b"print" | b"fence") {
+        return Err(UNKNOWN_COMMAND);
     }
-    let level = within(level, i64::from(depth))? as u32;
-    let tolerance = within(tolerance, MAX_DIFFERENCE)? as u64;
-    Some(Command::Project(
-        name,
-        Projection {
-            function,
-            level,
-            tolerance,
-        },
-    ))
+    let (command, is_within) = form_of(depth, words).ok_or(WORDS)?;
+    let has_room = match &command {
+        Command::Project(name, _) => before.names.contains(name) || before.names.len() < MAX_TREES,
+        Command::Print(_) => before.prints < MAX_PRINTS,
+        Command::Fence => true,
+    };
+    if !is_within || !has_room || before.commands.len() >= MAX_COMMANDS {
+        return Err(LIMIT);
+    }
+    match &command {
+        Command::Print(name) if !before.names.contains(name) => Err(UNKNOWN_TREE),
+        Command::Project(..) | Command::Print(_)
+            if before.since_fence >= MAX_COMMANDS_BEFORE_FENCE =>
+        {
+            Err(FENCE)
+        }
+        _ => Ok(command),
+    }
+}
+
+impl<'a> Accepted<'a> {
+    fn add(&mut self, command: Command<'a>) {
+        self.since_fence += 1;
+        match &command {
+            Command::Project(name, _) => {
+                self.names.insert(name);
+            }
+            Command::Print(_) => self.prints += 1,
+            Command::Fence => self.since_fence = 0,
+        }
+        self.commands.push(command);
+    }
 }
 
 fn parse(text: &[u8]) -> Result<(u32, Vec<Command<'_>>), Refusal> {
-    let (mut depth, mut commands, mut names) = (None, Vec::new(), HashSet::new());
+    let (mut depth, mut accepted) = (None, Accepted::default());
     let mut count = 0;
     for (index, line) in lines(text).enumerate() {
         count = index + 1;
+        let refusal = |(kind, name): Fault| format!("fault line {count} F{kind} {name}");
         let words = words(line);
         if words.first().is_none_or(|word| word[0] == b'#') {
             continue;
         }
+        if !line.iter().all(|byte| matches!(byte, b'\t' | 32..=126)) {
+            return Err(refusal(ASCII));
+        }
         let Some(depth) = depth else {
-            let found = depth_of(&words);
-            depth = Some(found.ok_or_else(|| format!("fault line {count} F2 header"))?);
+            depth = Some(depth_of(&words).ok_or_else(|| refusal(HEADER))?);
             continue;
         };
-        let command = command_of(depth, &words).filter(|command| {
-            commands.len() < MAX_COMMANDS
-                && match command {
-                    Command::Print(name) => names.contains(name),
-                    Command::Project(name, _) => names.contains(name) || names.len() < MAX_TREES,
-                }
-        });
-        let command = command.ok_or_else(|| format!("fault line {count} F3 unknown command"))?;
-        if let Command::Project(name, _) = command {
-            names.insert(name);
-        }
-        commands.push(command);
+        let command = command_of(depth, &words, &accepted).map_err(refusal)?;
+        accepted.add(command);
     }
     let depth = depth.ok_or_else(|| format!("fault line {} F2 header", count + 1))?;
-    Ok((depth, commands))
+    Ok((depth, accepted.commands))
 }
 
 /// Adds the leaves at or below a key, whose box has the cells from `at << (depth - level)` on.
@@ -202,6 +256,7 @@ fn job_text(depth: u32, commands: &[Command]) -> io::Result<Vec<u8>> {
                     writeln!(text, "{level} {at} {sum}")?;
                 }
             }
+            Command::Fence => {}
         }
     }
     Ok(text)

@@ -1,11 +1,14 @@
 #!/usr/bin/env bash
 # Measures the program `world` beside bench/plain.rs: wall time and peak memory of each job, the least of several runs.
-# usage: bench/run.sh [RUNS], 9 runs of each if left out. docs/BENCHMARKS.md says what is measured.
+# usage: bench/run.sh [RUNS [SERIAL]], 9 runs of each if left out. SERIAL is a plain program that does jobs of all
+# commands, given on its standard input, with the word `run`; with it, jobs of nearly full trees are measured beside it.
+# docs/BENCHMARKS.md says what is measured.
 set -eu
 LC_ALL=C
 export LC_ALL
 top=$(cd -- "$(dirname -- "${BASH_SOURCE[0]}")/.." && pwd)
 runs=${1:-9}
+serial=${2:-}
 world=$top/crates/world/out/world
 stopwatch=/usr/bin/time
 
@@ -13,6 +16,7 @@ fail() { printf 'bench: %s\n' "$*" >&2; exit 1; }
 
 [[ $runs =~ ^[1-9][0-9]?$ ]] || fail "the number of runs is 1 to 99"
 command -v rustc >/dev/null || fail "there is no rustc in PATH, which builds bench/plain.rs"
+[ -z "$serial" ] || [ -x "$serial" ] || fail "$serial is no program"
 [ -x "$stopwatch" ] || fail "there is no $stopwatch, which measures memory (package time)"
 
 room=$(mktemp -d)
@@ -38,6 +42,41 @@ job() {
     for ((i = 0; i < second_times; i++)); do printf '%s\n' "$second"; done
 }
 
+# The job of 1 MiB with as many commands as a job may have, each line filled up with blanks, and a comment for the rest.
+longest_job() {
+    local i line
+    printf 'job 1 depth 0\n'
+    for ((i = 1; i <= 512; i++)); do
+        line='project f const 1 level 0 tol 0'
+        [ $((i % 32)) != 0 ] || line=fence
+        printf '%-2046s\n' "$line"
+    done
+    fill '#' 'x' 498
+}
+
+# A job over nearly full trees, whose text is two inner products.
+full_trees() {
+    local depth=$1 cells=$((1 << $1))
+    cat <<JOB
+job 1 depth $depth
+project f hash 7 1000 level 4 tol 0
+project g ramp 7 1 level 2 tol 0
+project h box $((7 * cells / 4096)) $cells 7 level 6 tol 0
+fence
+compress f
+compress g
+compress h
+add p = 2 f + -1 g
+inner f g
+inner p h
+fence
+reconstruct p
+reconstruct h
+mul q = p * h
+fence
+JOB
+}
+
 full='project f ramp 0 1 level 16 tol 0'
 header=$'job 1 depth 0\n'
 job 16 "$full" 1 'print f' 31 >"$room/full tree, 31 prints"
@@ -46,19 +85,21 @@ job 16 "$full" 31 '' 0 >"$room/31 full trees, no print"
 job 16 'project f ramp 0 1 level 0 tol 8192' 1 'print f' 1 >"$room/small tree at depth 16"
 fill "$header#" 'x' 1048576 >"$room/comment of 1 MiB"
 fill "$header" 'a ' 1048576 >"$room/one-letter words, 1 MiB"
+longest_job >"$room/512 commands, 1 MiB"
 fill "$header#" 'x' 1048577 >"$room/one byte too long"
+for depth in 12 14 16; do full_trees $depth >"$room/nearly full trees at depth $depth"; done
 
-# The wall time of one run, in microseconds.
+# The wall time of one run of a program with a word, in microseconds.
 micros() {
     local from=$EPOCHREALTIME
-    "$1" run <"$2" >/dev/null || true
+    "$1" "$2" <"$3" >/dev/null || true
     local to=$EPOCHREALTIME
     echo $((${to/./} - ${from/./}))
 }
 
 # The most memory that one run had, in KB.
 peak() {
-    "$stopwatch" -q -f '%M' -o "$room/peak" "$1" run <"$2" >/dev/null || true
+    "$stopwatch" -q -f '%M' -o "$room/peak" "$1" "$2" <"$3" >/dev/null || true
     cat "$room/peak"
 }
 
@@ -66,23 +107,24 @@ least() { sort -n "$1" | head -n 1; }
 
 # Whether both write the same bytes and end with the same status.
 compare() {
-    local ours=0 theirs=0
-    "$world" run <"$1" >"$room/ours" || ours=$?
-    "$plain" run <"$1" >"$room/theirs" || theirs=$?
-    [ "$ours" = "$theirs" ] || fail "$2: status $ours, and of the plain program $theirs"
-    cmp -s "$room/ours" "$room/theirs" || fail "$2: the two programs write different bytes"
+    local yardstick=$1 word=$2 name=$3 ours=0 theirs=0
+    "$world" "$word" <"$room/$name" >"$room/ours" || ours=$?
+    "$yardstick" run <"$room/$name" >"$room/theirs" || theirs=$?
+    [ "$ours" = "$theirs" ] || fail "$name: status $ours, and of the plain program $theirs"
+    cmp -s "$room/ours" "$room/theirs" || fail "$name: the two programs write different bytes"
 }
 
 # One row: the job, its output, and times and memory of both, whose runs take turns.
 measure() {
-    local job=$1 name=$2 i
-    compare "$job" "$name"
+    local yardstick=$1 word=$2 name=$3 i
+    local job=$room/$name
+    compare "$yardstick" "$word" "$name"
     : >"$room/world-time"; : >"$room/plain-time"; : >"$room/world-peak"; : >"$room/plain-peak"
     for ((i = 0; i < runs; i++)); do
-        micros "$world" "$job" >>"$room/world-time"
-        micros "$plain" "$job" >>"$room/plain-time"
-        peak "$world" "$job" >>"$room/world-peak"
-        peak "$plain" "$job" >>"$room/plain-peak"
+        micros "$world" "$word" "$job" >>"$room/world-time"
+        micros "$yardstick" run "$job" >>"$room/plain-time"
+        peak "$world" "$word" "$job" >>"$room/world-peak"
+        peak "$yardstick" run "$job" >>"$room/plain-peak"
     done
     awk -v name="$name" -v bytes="$(wc -c <"$room/ours")" \
         -v a="$(least "$room/world-time")" -v b="$(least "$room/plain-time")" \
@@ -90,10 +132,18 @@ measure() {
         'BEGIN { printf "| %s | %d | %.4f | %.4f | %.2f | %d | %d | %.2f |\n", name, bytes, a / 1e6, b / 1e6, a / b, c, d, c / d }'
 }
 
+heads() {
+    echo "| job | bytes written | world, s | $1, s | ratio | world, KB | $1, KB | ratio |"
+    echo '|---|---|---|---|---|---|---|---|'
+}
+
 printf 'least of %s runs, %s processors, %s, %s\n\n' "$runs" "$(nproc)" "$(rt version)" "$(rustc --version)"
-echo '| job | bytes written | world, s | plain, s | ratio | world, KB | plain, KB | ratio |'
-echo '|---|---|---|---|---|---|---|---|'
+heads plain
 for name in 'full tree, 31 prints' 'full tree, 1 print' '31 full trees, no print' 'small tree at depth 16' \
-    'comment of 1 MiB' 'one-letter words, 1 MiB' 'one byte too long'; do
-    measure "$room/$name" "$name"
+    'comment of 1 MiB' '512 commands, 1 MiB' 'one-letter words, 1 MiB' 'one byte too long'; do
+    measure "$plain" run "$name"
 done
+[ -n "$serial" ] || exit 0
+echo
+heads serial
+for depth in 12 14 16; do measure "$serial" serial "nearly full trees at depth $depth"; done
