@@ -1,6 +1,6 @@
 ghost use Rattle.std.specs.Prelude.{◌≡◌, ◌+◌, ◌<◌, ◌≤◌, length, ◌||◌, [], ◌∷◌, ◌++◌, map, nat_lt, not, take, true, if◌then◌else◌};
 ghost use Rattle.std.specs.Option.{option_map};
-ghost use Rattle.job_lang.specs.Checks.{brings_tree, form_behind, has_forms, has_room, has_trees, is_accepted, is_fence, is_near_fence, is_print, is_written, max_commands_before_fence, max_prints, may_follow, suits};
+ghost use Rattle.job_lang.specs.Checks.{brings_tree, form_behind, has_forms, has_room, has_trees, is_accepted, is_fence, is_near_fence, is_print, is_written, max_commands_before_fence, max_prints, may_follow, suits, trees_behind};
 ghost use Rattle.job_lang.specs.Data.{data_of, form_of};
 ghost use Rattle.job_lang.specs.Reading.{checked_command, unless_fault};
 ghost use Rattle.job_lang.specs.Versions.{step_of, version_behind};
@@ -285,5 +285,13 @@ impl History {
         self.prints = prints_with(self.prints, command);
         self.since_fence = since_fence_with(self.since_fence, command);
         self.fences = fences_with(self.fences, command);
+    }
+
+    /// How many trees the commands bring.
+    pub fn trees(&self, before: &[Command]) -> u32
+        requires { Recalls (map data_of before.now) self.now }
+        ensures { result ≡ trees_behind [] (map data_of before.now) }
+    {
+        self.trees as u32
     }
 }

@@ -1,5 +1,5 @@
-ghost use Rattle.std.specs.Prelude.{◌≡◌, ◌↔◌, [], IfSome, IsSome, map};
-ghost use Rattle.job_lang.specs.Checks.{IsJob, are_accepted};
+ghost use Rattle.std.specs.Prelude.{◌≡◌, ◌↔◌, ℕ, [], IfSome, IsSome, length, true, map};
+ghost use Rattle.job_lang.specs.Checks.{IsJob, are_accepted, trees_behind};
 ghost use Rattle.job_lang.specs.Data.{data_of};
 
 use crate::command::Command;
@@ -44,6 +44,18 @@ fn are_accepted(depth: u8, commands: &[Command]) -> bool
     true
 }
 
+// How many trees these commands bring, each of which is accepted behind those before it.
+fn trees_of(commands: &[Command]) -> u32
+    requires { (depth : ℕ) × (are_accepted depth [] (map data_of commands.now) ≡ true) }
+    ensures { result ≡ trees_behind [] (map data_of commands.now) }
+{
+    let mut history = History::new();
+    for at in 0..commands.len() {
+        history.add(&commands[..at], &commands[at]);
+    }
+    history.trees(commands)
+}
+
 impl Job {
     /// A job of its parts, which are known to be one.
     pub fn new(depth: u8, commands: Vec<Command>) -> Job
@@ -78,5 +90,19 @@ impl Job {
         ensures { map data_of result.now ≡ self.now.commands }
     {
         &self.commands
+    }
+
+    /// How many commands there are, fences among them.
+    pub fn command_count(&self) -> usize
+        ensures { result ≡ length self.now.commands }
+    {
+        self.commands.len()
+    }
+
+    /// How many trees the commands write, by their names.
+    pub fn trees(&self) -> u32
+        ensures { result ≡ trees_behind [] self.now.commands }
+    {
+        trees_of(&self.commands)
     }
 }

@@ -1,9 +1,9 @@
 -- Sums and products of integers, each read as what is above zero less what is below.
-use Rattle.std.proofs.Common.{◌≡◌, ℕ, ◌*◌, ◌<◌, ◌≤◌, ℤ, pos, ◌+ℤ◌, ◌-ℤ◌, ◌*ℤ◌, neg_ℤ, ap, arith}
-use Rattle.std.specs.Int.RustNames.{unsigned_abs}
+use Rattle.std.proofs.Common.{◌≡◌, ℕ, zero, suc, ◌*◌, ◌/◌, ◌<◌, ◌≤◌, ℤ, pos, negsuc, ◌+ℤ◌, ◌-ℤ◌, ◌*ℤ◌, neg_ℤ, refl, ap, ◌∙◌, arith}
+use Rattle.std.specs.Int.RustNames.{unsigned_abs, int_div}
 use Rattle.std.proofs.lemmas.Int.{ints, unsigned_abs-mul}
 use Rattle.std.proofs.lemmas.Nat.{mul-le}
-use Rattle.std.proofs.Math.Nat.{eq_of_mul-eq-mul_left}
+use Rattle.std.proofs.Math.Nat.{eq_of_mul-eq-mul_left, mul-div_cancel_left, zero-div}
 use borrow.Author.Differences.{up, down, sum_is_lem, product_is, neg_is}
 
 -- an equation of numbers, times both parts of an integer
@@ -61,3 +61,13 @@ times-cancel n a b some same =
 pub product-within : (a b : ℤ) (m n : ℕ) → unsigned_abs a ≤ m → unsigned_abs b ≤ n → unsigned_abs (a *ℤ b) ≤ m * n
 product-within a b m n within_a within_b =
     rw (unsigned_abs-mul a b) (mul-le (unsigned_abs a) (unsigned_abs b) m n within_a within_b)
+
+-- the quotient of what is below zero is that of what is above it, turned round
+turned-quotient : (m n : ℕ) → int_div (neg_ℤ (pos m)) (pos n) ≡ neg_ℤ (pos (m / n))
+turned-quotient zero n = rw (zero-div n) refl
+turned-quotient (suc m) n = refl
+
+-- a multiple has its factor as quotient
+pub quotient-of-multiple : (n : ℕ) (z : ℤ) → 0 < n → int_div (pos n *ℤ z) (pos n) ≡ z
+quotient-of-multiple n (pos m) some = ap pos (mul-div_cancel_left m some)
+quotient-of-multiple n (negsuc m) some = turned-quotient (n * suc m) n ∙ ap (λ q. neg_ℤ (pos q)) (mul-div_cancel_left (suc m) some)

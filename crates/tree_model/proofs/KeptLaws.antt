@@ -1,35 +1,39 @@
 -- What an evaluator of commands rests on.
 use Rattle.tree_model.specs.Kept.{WholeBoxesAreEven, WholeBoxesHaveOneValue, ProductsOfValues, ProductsOverflow, LeavesWithin, ValuesDontOverflow, ProjectionsHaveValues, RefinedHaveValues, LeavesInOrder, DifferencesInOrder, LeavesAtKeys}
+use Rattle.tree_model.proofs.WholeBoxes.{boxes-are-even, boxes-have-one-value}
+use Rattle.tree_model.proofs.LeafProducts.{sums-of-values, much-on-a-leaf}
+use Rattle.tree_model.proofs.KeptOrder.{sums-in-order, interior-in-order, sums-at-keys}
+use Rattle.tree_model.proofs.ValueLimits.{within-on-leaves, no-overflow, projected-values, refined-values}
 
 pub whole-boxes-are-even : WholeBoxesAreEven
-whole-boxes-are-even t k tree whole above = ?
+whole-boxes-are-even = boxes-are-even
 
 pub whole-boxes-have-one-value : WholeBoxesHaveOneValue
-whole-boxes-have-one-value t k tree values whole = ?
+whole-boxes-have-one-value = boxes-have-one-value
 
 pub products-of-values : ProductsOfValues
-products-of-values f g k left right same leaf = ?
+products-of-values = sums-of-values
 
 pub products-overflow : ProductsOverflow
-products-overflow f g k left right same leaf over = ?
+products-overflow = much-on-a-leaf
 
 pub leaves-within : LeavesWithin
-leaves-within t tree within = ?
+leaves-within = within-on-leaves
 
 pub values-dont-overflow : ValuesDontOverflow
-values-dont-overflow t values = ?
+values-dont-overflow = no-overflow
 
 pub projections-have-values : ProjectionsHaveValues
-projections-have-values depth p fit = ?
+projections-have-values = projected-values
 
 pub refined-have-values : RefinedHaveValues
-refined-have-values level t values = ?
+refined-have-values = refined-values
 
 pub leaves-in-order : LeavesInOrder
-leaves-in-order t m tree ordered at = ?
+leaves-in-order = sums-in-order
 
 pub differences-in-order : DifferencesInOrder
-differences-in-order t m tree ordered at = ?
+differences-in-order = interior-in-order
 
 pub leaves-at-keys : LeavesAtKeys
-leaves-at-keys t m k tree entries = ?
+leaves-at-keys = sums-at-keys

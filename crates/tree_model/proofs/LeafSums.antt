@@ -58,7 +58,7 @@ total-slice from count xs v room each =
     total-same (slice from count xs) v (λ i below. at i (omega arith)) ∙ ap (λ n. pos n *ℤ v) all
 
 -- the value at the first cell of a box
-abbrev first_value : Tree → Key → ℤ
+abbrev pub first_value : Tree → Key → ℤ
 first_value t k = get_or t.cells (first_cell t.depth k) (pos 0)
 
 -- the first cell of a key of the depth is a cell
@@ -76,7 +76,7 @@ first-is t k is key =
     slice_get-get_or t.cells (first_cell t.depth k) (pos 0) (omega arith)
 
 -- the sum over the box of a key without children
-sum-whole : (t : Tree) (k : Key) → IsTree t → is_key_of t.depth k ≡ true → t.shape (child k false) ≡ false → box_sum t k ≡ pos (width t.depth k) *ℤ first_value t k
+pub sum-whole : (t : Tree) (k : Key) → IsTree t → is_key_of t.depth k ≡ true → t.shape (child k false) ≡ false → box_sum t k ≡ pos (width t.depth k) *ℤ first_value t k
 sum-whole t k is key none =
     let parts = key-parts t.depth k key in
     let room = box-within t.depth k parts.level parts.at in
@@ -92,9 +92,16 @@ sum-leaf t k is leaf =
 regroup : (w v u : ℤ) → w *ℤ (v *ℤ u) *ℤ w ≡ w *ℤ v *ℤ (w *ℤ u)
 regroup w v u = ap (λ z. z *ℤ w) (sym (times-times w v u)) ∙ times-times (w *ℤ v) u w ∙ ap (λ z. w *ℤ v *ℤ z) (*ℤ_comm u w)
 
--- both trees have one value on a leaf of their product
-pub product-leaves : ProductOnLeaves
-product-leaves f g k is is_own same leaf =
+-- both trees have one value on a leaf of their product, and the sums over it are the width times these and their product
+pub record HasProduct (f g : Tree) (k : Key) : Type 0 where
+  pub left : ℤ
+  pub right : ℤ
+  pub left_sum : box_sum f k ≡ pos (width f.depth k) *ℤ left
+  pub right_sum : box_sum g k ≡ pos (width f.depth k) *ℤ right
+  pub sum : box_sum (product f g) k ≡ pos (width f.depth k) *ℤ (left *ℤ right)
+
+pub product-on-leaf : (f g : Tree) (k : Key) → IsTree f → IsTree g → f.depth ≡ g.depth → is_leaf (union f.shape g.shape) k ≡ true → HasProduct f g k
+product-on-leaf f g k is is_own same leaf =
     let other : Tree = record { depth = f.depth; cells = g.cells; shape = g.shape } in
     let is_other : IsTree other = tree-at f.depth g same is_own in
     let made : Tree = product f g in
@@ -109,11 +116,19 @@ product-leaves f g k is is_own same leaf =
     let there : slice_get made.cells (first_cell f.depth k) ≡ Some (first_value made k) = first-is made k is_made key in
     let values : Some (first_value made k) ≡ Some (v *ℤ u) = sym there ∙ value in
     let first : first_value made k ≡ v *ℤ u = cc in
-    let whole : box_sum made k ≡ w *ℤ (v *ℤ u) = (sum-leaf made k is_made leaf ∙ ap (λ z. w *ℤ z) first) in
-    let one : box_sum f k ≡ w *ℤ v = sum-whole f k is key none.0 in
-    let two : box_sum other k ≡ w *ℤ u = sum-whole other k is_other key none.1 in
-    let two_own : box_sum other k ≡ box_sum g k = ap (λ d. total (slice (first_cell d k) (width d k) g.cells)) same in
-    rw (whole, one, ← two_own, two) (regroup w v u)
+    let own : box_sum g k ≡ box_sum other k = ap (λ d. total (slice (first_cell d k) (width d k) g.cells)) (sym same) in
+    record {
+      left = v;
+      right = u;
+      left_sum = sum-whole f k is key none.0;
+      right_sum = own ∙ sum-whole other k is_other key none.1;
+      sum = sum-leaf made k is_made leaf ∙ ap (λ z. w *ℤ z) first;
+    }
+
+pub product-leaves : ProductOnLeaves
+product-leaves f g k is is_own same leaf =
+    let on_leaf = product-on-leaf f g k is is_own same leaf in
+    rw (on_leaf.sum, on_leaf.left_sum, on_leaf.right_sum) (regroup (pos (width f.depth k)) on_leaf.left on_leaf.right)
 
 -- a place of a list whose element passes a test
 record Passes (p : ℤ → Bool) (zs : List ℤ) : Type 0 where
@@ -145,7 +160,7 @@ in_cell_key depth cell =
     record { from = omega arith; below = omega arith }
 
 -- some leaf has the cell of a value that is too much
-leaf-overflows : (t : Tree) → IsTree t → overflows t ≡ true → (k : Key) × IsOverLeaf t k
+pub leaf-overflows : (t : Tree) → IsTree t → overflows t ≡ true → (k : Key) × IsOverLeaf t k
 leaf-overflows t is over =
     let found = passing (λ z. not (is_value z)) t.cells over in
     let cell = found.at in
@@ -163,7 +178,7 @@ leaf-overflows t is over =
     let size : unsigned_abs (box_sum t leaf.leaf) ≡ w * unsigned_abs (first_value t leaf.leaf) = (ap unsigned_abs (sum-leaf t leaf.leaf is leaf.is) ∙ unsigned_abs-mul (pos w) (first_value t leaf.leaf)) in
     (leaf.leaf, record { leaf = leaf.is; over = rw size (mul-lt-mul_of_pos_left much (pow_pos (t.depth - leaf.leaf.level))) })
 
-leaf-shows : (t : Tree) → IsTree t → ((k : Key) × IsOverLeaf t k) → overflows t ≡ true
+pub leaf-shows : (t : Tree) → IsTree t → ((k : Key) × IsOverLeaf t k) → overflows t ≡ true
 leaf-shows t is shown =
     let k = shown.0 in
     let leaf = shown.1.leaf in

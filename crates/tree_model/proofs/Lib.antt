@@ -16,4 +16,10 @@ pub mod BelowLeaves
 pub mod Combined
 pub mod CombinedSums
 pub mod LeafSums
+pub mod WholeBoxes
+pub mod ValueLimits
+pub mod SameEntries
+pub mod KeyOrder
+pub mod KeptOrder
+pub mod LeafProducts
 pub mod KeptLaws

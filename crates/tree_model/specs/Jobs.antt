@@ -1,11 +1,11 @@
 -- Jobs and their texts: what a job's commands write, one after another, up to the first that overflows.
 use Rattle.std.specs.Prelude.{ℕ, ◌+◌, ◌-◌, List, [], ◌∷◌, ◌++◌, take, Option, Some, None, if◌then◌else◌}
-use Rattle.std.specs.Option.{option_map, option_map_or}
+use Rattle.std.specs.Option.{option_map_or}
 use Rattle.tree_model.specs.Commands.{Command}
 use Rattle.tree_model.specs.Commands.Command.{Project, Refine, Compress, Reconstruct, Add, Mul, Inner, Print, Fence}
 use Rattle.tree_model.specs.Nodes.Form.{Compressed}
 use Rattle.tree_model.specs.OperationTexts.{printed_lines, inner_line, overflow_line}
-use Rattle.tree_model.specs.Versions.{Version, Versions, no_versions, read_two, after, command_overflows}
+use Rattle.tree_model.specs.Versions.{Versions, no_versions, read_two, after, command_overflows}
 
 -- a job: its depth and its commands
 pub record JobData : Type 0 where

@@ -1,10 +1,10 @@
 -- What is kept of a tree at each key, in its two forms, and what an evaluator of commands rests on.
-use Rattle.std.specs.Prelude.{◌≡◌, ℕ, ◌*◌, ◌^◌, ◌<◌, ◌≤◌, true, false, List, map, Option, Some, None, if◌then◌else◌, ℤ, pos, ◌*ℤ◌, int_div, int_rem}
+use Rattle.std.specs.Prelude.{◌≡◌, ℕ, ◌*◌, ◌<◌, ◌≤◌, true, false, List, map, Option, Some, None, if◌then◌else◌, ℤ, pos, ◌*ℤ◌, int_div, int_rem}
 use Rattle.std.specs.Int.RustNames.{unsigned_abs}
 use Rattle.std.specs.BTreeMap.{BTreeMap, get, IsOrdered}
 use Rattle.tree_key.specs.Keys.{Key, child, width, key_cmp}
 use Rattle.tree_model.specs.Functions.{fits, max_value}
-use Rattle.tree_model.specs.Operations.{refined, union, weighted_sum, product, overflows}
+use Rattle.tree_model.specs.Operations.{refined, union, product, overflows}
 use Rattle.tree_model.specs.OperationTexts.{interior_keys}
 use Rattle.tree_model.specs.Project.{Projection, projected}
 use Rattle.tree_model.specs.Rows.{leaf_sums}

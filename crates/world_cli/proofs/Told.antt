@@ -3,18 +3,27 @@ use Rattle.std.proofs.Common.{◌≡◌, ℕ, ◌+◌, ◌<◌, List, length, Op
 use Rattle.std.specs.Prelude.{codes}
 use Rattle.std.specs.Io.KnownBytes.{Consumes}
 use Rattle.std.proofs.lemmas.Bool.{lt-ltb}
-use Rattle.world_cli.specs.Answers.{Answers, run_answer, max_input, Answer}
+use Rattle.world_cli.specs.Answers.{Answers, answer_to, max_input, Answer}
+use Rattle.world_cli.specs.declared.request.Request.{Request}
+use Rattle.world_cli.specs.declared.request.Request.TheVariants.{Run, Serial, Check}
 
-long-answer : (bytes : List ℕ) → max_input < length bytes → run_answer bytes ≡ record { status = 2; text = codes "fault too long\n" }
-long-answer bytes long = rw (lt-ltb max_input (length bytes) long) refl
+long-answer : (request : Request) (bytes : List ℕ) → max_input < length bytes → answer_to request bytes ≡ record { status = 2; text = codes "fault too long\n" }
+long-answer Run bytes long = rw (lt-ltb max_input (length bytes) long) refl
+long-answer Serial bytes long = rw (lt-ltb max_input (length bytes) long) refl
+long-answer Check bytes long = rw (lt-ltb max_input (length bytes) long) refl
 
 -- a source that gave too many bytes told too many, and that is what is answered
-pub too-long : (left now : Option (List ℕ)) (given text : List ℕ) → length given ≡ max_input + 1 → Consumes left now given → text ≡ codes "fault too long\n" → Answers left 2 text
-too-long None now given text long gone is =
-    let answer = long-answer given (omega arith) in
+pub too-long :
+    (request : Request) (left now : Option (List ℕ)) (given text : List ℕ) →
+    length given ≡ max_input + 1 →
+    Consumes left now given →
+    text ≡ codes "fault too long\n" →
+    Answers request left 2 text
+too-long request None now given text long gone is =
+    let answer = long-answer request given (omega arith) in
     record { bytes = given; told = tt; status = ap (λ (a : Answer). a.status) answer; text = ap (λ (a : Answer). a.text) answer ∙ sym is }
-too-long (Some bytes) None given text long gone is = absurd gone
-too-long (Some bytes) (Some rest) given text long gone is =
+too-long request (Some bytes) None given text long gone is = absurd gone
+too-long request (Some bytes) (Some rest) given text long gone is =
     let more : max_input < length bytes = rw gone (omega (arith, length-append given rest)) in
-    let answer = long-answer bytes more in
+    let answer = long-answer request bytes more in
     record { bytes = bytes; told = refl; status = ap (λ (a : Answer). a.status) answer; text = ap (λ (a : Answer). a.text) answer ∙ sym is }

@@ -1,5 +1,3 @@
-pub mod Projecting
-pub mod Lines
-pub mod Trees
+pub mod Requests
 pub mod Answers
 pub mod Status

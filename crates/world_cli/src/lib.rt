@@ -2,13 +2,13 @@
 #![tactic(auto)]
 
 mod answer;
-mod evaluate;
 mod examples;
-mod lines;
 mod program;
-mod projecting;
+mod request;
 mod status;
 #[cfg(test)]
 mod tests;
 
+pub use answer::{Answer, check_text, serial_text};
 pub use program::world_main;
+pub use status::Status;

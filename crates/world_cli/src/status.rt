@@ -9,6 +9,8 @@ pub enum Status {
     Usage = 1,
     /// The input isn't a job, or is too long.
     JobFault = 2,
+    /// A command of the job overflows; the text before it was written, and a line that names it.
+    Overflow = 3,
     /// There was no memory; nothing was written.
     OutOfMemory = 4,
     /// A read failed; nothing was written.

@@ -67,7 +67,7 @@ fn jobs_and_faults(rt: HostRuntime) -> Result<(), Fail> {
         (
             b"job 1 depth 1\n\n# f isn't written\nprint f\n",
             2,
-            b"fault line 4 F3 unknown command\n",
+            b"fault line 4 F6 unknown tree\n",
         ),
         (
             b"job 1 depth 1\nproject f ramp 0 16777216 level 0 tol 0\n",
@@ -77,7 +77,7 @@ fn jobs_and_faults(rt: HostRuntime) -> Result<(), Fail> {
         (
             b"job 1 depth 1\nproject f ramp 0 16777217 level 0 tol 0\n",
             2,
-            b"fault line 2 F3 unknown command\n",
+            b"fault line 2 F5 limit\n",
         ),
     ];
     for (input, status, text) in cases {
@@ -85,6 +85,120 @@ fn jobs_and_faults(rt: HostRuntime) -> Result<(), Fail> {
         assert_eq!(rt; outcome.status, status);
         assert!(rt; outcome.written.as_slice() == text);
     }
+    Ok(())
+}
+
+// The first two lines of jobs on a ramp over four cells.
+const RAMP_LINES: &[u8] = b"job 1 depth 2\nproject f ramp 0 1 level 0 tol 0\n";
+
+// The ramp's tree in its compressed form.
+const COMPRESSED_TEXT: &[u8] = b"tree f compressed 6\n0 0 -4\n1 0 -1\n1 1 -1\n";
+
+// The same with the words `serial`.
+fn serial_of(alloc: Global, parts: &[&[u8]]) -> Result<Outcome, AllocError> {
+    let mut input = Vec::new(alloc);
+    for part in parts {
+        input.extend_from_slice(*part)?;
+    }
+    run_over_memory(alloc, &["serial"], &input)
+}
+
+#[test]
+fn forms_of_a_ramp(rt: HostRuntime) -> Result<(), Fail> {
+    let cases: [(&[u8], u8, &[u8]); 5] = [
+        (b"compress f\nprint f\n", 0, COMPRESSED_TEXT),
+        (b"compress f\ninner f f\n", 0, b"inner f f 14\n"),
+        (
+            b"compress f\nreconstruct f\nprint f\n",
+            0,
+            b"tree f reconstructed\n2 0 0\n2 1 1\n2 2 2\n2 3 3\n",
+        ),
+        (
+            b"project g const 5 level 0 tol 0\ncompress f\ncompress g\nfence\nadd h = 1 g + -1 f\nprint h\n",
+            0,
+            b"tree h compressed 14\n0 0 4\n1 0 1\n1 1 1\n",
+        ),
+        (
+            b"fence\nrefine f 2\nmul f = f * f\ncompress f\ninner f f\n",
+            0,
+            b"inner f f 98\n",
+        ),
+    ];
+    for (commands, status, text) in cases {
+        let outcome = serial_of(rt.alloc(), &[RAMP_LINES, commands])?;
+        assert_eq!(rt; outcome.status, status);
+        assert!(rt; outcome.written.as_slice() == text, "after {commands:?}");
+    }
+    Ok(())
+}
+
+#[test]
+fn overflows_and_limits(rt: HostRuntime) -> Result<(), Fail> {
+    let cases: [(&[u8], u8, &[u8]); 7] = [
+        // The text before the first command that overflows is kept, and nothing of those behind it.
+        (
+            b"job 1 depth 0\nproject f const 16777216 level 0 tol 0\nprint f\ncompress f\nadd h = 2 f + 0 f\nadd k = 3 f + 0 f\nprint h\n",
+            3,
+            b"tree f reconstructed\n0 0 16777216\noverflow at command 4\n",
+        ),
+        (
+            b"job 1 depth 0\nproject f const 4096 level 0 tol 0\nproject g const -4096 level 0 tol 0\nmul h = f * g\nprint h\n",
+            0,
+            b"tree h reconstructed\n0 0 -16777216\n",
+        ),
+        (
+            b"job 1 depth 0\nproject f const 4097 level 0 tol 0\nproject g const -4097 level 0 tol 0\nmul h = f * g\nprint h\n",
+            3,
+            b"overflow at command 3\n",
+        ),
+        (
+            b"job 1 depth 0\nproject f const 1 level 0 tol 0\ncompress f\ncompress f\n",
+            2,
+            b"fault line 4 F7 wrong form\n",
+        ),
+        (
+            b"job 1 depth 0\nproject f hash 0 1000 level 0 tol 0\nprint f\n",
+            0,
+            b"tree f reconstructed\n0 0 535\n",
+        ),
+        (
+            b"job 1 depth 0\ncoarsen f\n",
+            2,
+            b"fault line 2 F3 unknown command\n",
+        ),
+        (
+            b"job 1 depth 0\nsize f\n",
+            2,
+            b"fault line 2 F3 unknown command\n",
+        ),
+    ];
+    for (input, status, text) in cases {
+        let outcome = serial_of(rt.alloc(), &[input])?;
+        assert_eq!(rt; outcome.status, status);
+        assert!(rt; outcome.written.as_slice() == text, "for {input:?}");
+    }
+    Ok(())
+}
+
+#[test]
+fn the_three_words(rt: HostRuntime) -> Result<(), Fail> {
+    let alloc = rt.alloc();
+    for word in ["run", "serial"] {
+        let outcome = run_over_memory(alloc, &[word], RAMP)?;
+        assert_eq!(rt; outcome.status, 0);
+        assert!(rt; outcome.written.as_slice() == RAMP_TEXT);
+    }
+    let checked = run_over_memory(alloc, &["check"], RAMP)?;
+    assert_eq!(rt; checked.status, 0);
+    assert!(rt; checked.written.as_slice() == b"ok commands 2 trees 1\n".as_slice());
+    // A job that overflows is a job.
+    let large = b"job 1 depth 0\nproject f const 16777216 level 0 tol 0\nmul f = f * f\nfence\n";
+    let overflowing = run_over_memory(alloc, &["check"], large)?;
+    assert_eq!(rt; overflowing.status, 0);
+    assert!(rt; overflowing.written.as_slice() == b"ok commands 3 trees 1\n".as_slice());
+    let faulty = run_over_memory(alloc, &["check"], b"job 1 depth 0\nprint f\n")?;
+    assert_eq!(rt; faulty.status, 2);
+    assert!(rt; faulty.written.as_slice() == b"fault line 2 F6 unknown tree\n".as_slice());
     Ok(())
 }
 
@@ -103,7 +217,16 @@ fn too_much_input(rt: HostRuntime) -> Result<(), Fail> {
 
 #[test]
 fn other_words(rt: HostRuntime) -> Result<(), Fail> {
-    let cases: [&[&str]; 5] = [&[], &["walk"], &["run", "run"], &["Run"], &["run "]];
+    let cases: [&[&str]; 8] = [
+        &[],
+        &["walk"],
+        &["run", "run"],
+        &["Run"],
+        &["run "],
+        &["serial", "check"],
+        &["check", ""],
+        &["audit"],
+    ];
     for words in cases {
         let outcome = run_over_memory(rt.alloc(), words, RAMP)?;
         assert_eq!(rt; outcome.status, 1);

@@ -1,0 +1,4 @@
+pub mod CountLemmas
+pub mod LabelLemmas
+pub mod SpawnLemmas
+pub mod InputLemmas

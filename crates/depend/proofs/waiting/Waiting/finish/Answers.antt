@@ -1,0 +1,13 @@
+use Rattle.std.proofs.Common.{arith}
+use Rattle.std.specs.Prelude.{IsSome}
+use Rattle.std.proofs.lemmas.List.Elements.{All-tail}
+use Rattle.std.proofs.lemmas.Grind.{common_steps}
+use Rattle.depend.proofs.waiting.Waiting.finish.Goals as goal
+
+pub loop-place-preserved : goal.loop-place-preserved
+loop-place-preserved g c = record {
+  so_far = grind (arith, common_steps);
+  left = grind (arith, common_steps);
+  filled = All-tail IsSome _ _ (rw c.in-Some.ensures.steps.0 at c.loop-place.invariant.filled);
+  room = grind (arith, common_steps);
+}

@@ -1,0 +1,14 @@
+//! Counted arguments: the values that a task waits for, each with a place of its own.
+//!
+//! A task that needs the values of futures is ready once each of its places is filled. [`Waiting`] counts the empty
+//! places, so that filling one tells at once whether it was the last. This is after MADNESS, which counts the
+//! dependencies of a task down.
+#![tactic(auto)]
+
+mod refusals;
+#[cfg(test)]
+mod tests;
+mod waiting;
+
+pub use refusals::{OutOfMemory, Twice};
+pub use waiting::{Learned, Waiting};

@@ -1,0 +1,28 @@
+-- Facts that hold where a call succeeds.
+use Rattle.std.proofs.Common.{◌≡◌, Result, OnOk, sym, ◌∙◌, ap}
+use Rattle.std.specs.Prelude.{Ok, Err, IsErrAnd, IfOk}
+
+-- a fact that follows from what holds on success
+pub OnOk-map : {T E : Type 0} (r : Result T E) (P Q : Type 0) → (P → Q) → OnOk r P → OnOk r Q
+OnOk-map (Ok x) P Q f p = f p
+OnOk-map (Err e) P Q f p = p
+
+-- a fact that holds in any case
+pub OnOk-from : {T E : Type 0} (r : Result T E) (P : Type 0) → P → OnOk r P
+OnOk-from (Ok x) P p = p
+OnOk-from (Err e) P p = tt
+
+-- the error that a `?` hands on is the one that the call answered
+pub handed-on : {T S E : Type 0} (r : Result T E) (called : Result S E) (e x : E) → IsErrAnd r (λ y. y ≡ x) → called ≡ Err x → r ≡ Err e → called ≡ Err e
+handed-on (Ok v) called e x same was is = absurd same
+handed-on (Err y) called e x same was is = let equal : y ≡ e = cc in was ∙ ap Err (sym same ∙ equal)
+
+-- two facts that hold on success
+pub OnOk-both : {T E : Type 0} (r : Result T E) (P Q : Type 0) → OnOk r P → OnOk r Q → OnOk r (P × Q)
+OnOk-both (Ok x) P Q p q = (p, q)
+OnOk-both (Err e) P Q p q = tt
+
+-- what follows for the value of a call that succeeds
+pub IfOk-map : {T E : Type 0} (r : Result T E) (P Q : T → Type 0) → ((x : T) → P x → Q x) → IfOk r P → IfOk r Q
+IfOk-map (Ok x) P Q f p = f x p
+IfOk-map (Err e) P Q f p = tt

@@ -1,0 +1,11 @@
+pub mod Numbers
+pub mod Filling
+pub mod LeafValues
+pub mod Adding
+pub mod InnerProducts
+pub mod Projecting
+pub mod Lines
+pub mod Kept
+pub mod Trees
+pub mod WholeSums
+pub mod Multiplied

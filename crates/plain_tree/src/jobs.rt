@@ -1,0 +1,95 @@
+//! A job done serially, command by command.
+ghost use Rattle.std.specs.Prelude.{◌≡◌, ◌≤◌, ◌++◌, ℕ, List, None, Some, Err, IfOk, OnOk, true, false};
+ghost use Rattle.tree_model.specs.Functions.{max_depth};
+ghost use Rattle.tree_model.specs.Jobs.{command_lines, first_overflow, job_text, lines_before};
+ghost use Rattle.tree_model.specs.Versions.{Versions, written, after, command_overflows};
+ghost use Rattle.job_lang.specs.Checks.{is_within_limits};
+ghost use Rattle.job_lang.specs.Data.{data_of};
+ghost use Rattle.plain_tree.specs.Kept.{Matches};
+ghost use Rattle.plain_tree.specs.Trees.{HasVersions};
+
+use crate::command_error::CommandError;
+use crate::kept::Kept;
+use crate::serial_error::SerialError;
+use crate::trees::{Trees, put};
+use crate::writing::{add_lines, written_tree};
+use job_lang::{Command, Job};
+use std::alloc::Global;
+use std::collections::BTreeMap;
+use tree_key::{OutOfMemory, Text};
+
+// Gives the name that a command writes the tree that it wrote, if it wrote one.
+fn put_written<'a>(
+    command: &'a Command,
+    tree: Option<Kept>,
+    trees: &mut Trees<'a>,
+) -> Result<(), OutOfMemory>
+    ensures { OnOk result ((depth : ℕ) (versions : Versions) → HasVersions depth versions trees.old →
+        Matches depth tree (written depth versions (data_of command.now)) →
+        HasVersions depth (after depth versions (data_of command.now)) trees.new) }
+{
+    match tree {
+        None => Ok(()),
+        Some(kept) => match command.written_name() {
+            Some(name) => put(trees, name, kept),
+            None => Ok(()),
+        },
+    }
+}
+
+// Carries a command out: it writes its tree, and adds its lines.
+fn run_command<'a>(
+    alloc: Global,
+    depth: u8,
+    command: &'a Command,
+    trees: &mut Trees<'a>,
+    text: &mut Text,
+) -> Result<(), CommandError>
+    requires depth { depth ≤ max_depth }
+    requires limits { is_within_limits depth (data_of command.now) ≡ true }
+    requires versions { (versions : Versions) × HasVersions depth versions trees.old }
+    ensures trees { OnOk result ((versions : Versions) → HasVersions depth versions trees.old →
+        HasVersions depth (after depth versions (data_of command.now)) trees.new) }
+    ensures text { OnOk result ((versions : Versions) → HasVersions depth versions trees.old →
+        text.new ≡ text.old ++ command_lines versions (data_of command.now)) }
+    ensures within { OnOk result ((versions : Versions) → HasVersions depth versions trees.old →
+        command_overflows depth versions (data_of command.now) ≡ false) }
+    ensures over { result ≡ Err CommandError.Overflow → (versions : Versions) → HasVersions depth versions trees.old →
+        command_overflows depth versions (data_of command.now) ≡ true }
+    ensures kept { result ≡ Err CommandError.Overflow → text.new ≡ text.old }
+{
+    let tree = written_tree(alloc, depth, command, trees)?;
+    add_lines(depth, command, trees, text)?;
+    put_written(command, tree, trees)?;
+    Ok(())
+}
+
+/// The text of a job, as its commands write it one after another.
+///
+/// # Errors
+///
+/// `Overflow` exactly where a command overflows, with the first such command and the text of the commands before it;
+/// `OutOfMemory` where there is no memory left.
+pub fn serial(alloc: Global, job: &Job) -> Result<Text, SerialError>
+    ensures within { IfOk result (λ text. first_overflow job.now ≡ None) }
+    ensures text { IfOk result (λ text. text ≡ job_text job.now) }
+    ensures overflow { (command : ℕ) (before : List ℕ) →
+        result ≡ Err (SerialError.Overflow command before) → first_overflow job.now ≡ Some command }
+    ensures text_before { (command : ℕ) (before : List ℕ) →
+        result ≡ Err (SerialError.Overflow command before) → before ≡ lines_before job.now command }
+{
+    let mut trees = BTreeMap::new(alloc);
+    let mut text = Text::new(alloc);
+    let depth = job.depth();
+    for (index, command) in job.commands().iter().enumerate() {
+        match run_command(alloc, depth, command, &mut trees, &mut text) {
+            Ok(()) => {}
+            Err(CommandError::Overflow) => {
+                let command = index as u32 + 1;
+                return Err(SerialError::Overflow { command, text });
+            }
+            Err(CommandError::OutOfMemory) => return Err(SerialError::OutOfMemory),
+        }
+    }
+    Ok(text)
+}

@@ -1,0 +1,238 @@
+//! The small application, called through its bound and compared with what was computed by hand.
+ghost use Rattle.std.specs.Prelude.{◌≡◌, ◌<◌, length, IfOk};
+ghost use Rattle.app_core.specs.Commands.{IsCommand, IsRankCount};
+
+use super::*;
+use app_core::{
+    App, CellName, CommandKind, Effect, Effects, Inputs, Label, Needs, OutOfMemory, laws,
+};
+use std::alloc::Global;
+use std::test::Fail;
+
+const fn app(ranks: u32) -> SmallApp
+    requires { IsRankCount ranks }
+{
+    SmallApp { ranks }
+}
+
+const fn future(command: u32, place: u64) -> Label {
+    Label {
+        command,
+        part: 0,
+        place,
+    }
+}
+
+const fn entry(place: u64) -> CellName {
+    CellName { version: 1, place }
+}
+
+// What is told of a unit.
+fn told<A: App>(
+    app: &A,
+    unit: &A::Unit,
+    ranks: u32,
+) -> (Label, Option<Label>, u32, Option<CellName>, Option<u32>)
+    requires { IsRankCount ranks }
+{
+    (
+        app.label(unit),
+        app.due(unit),
+        app.home(unit, ranks),
+        app.reads(unit, 0),
+        app.counts(unit),
+    )
+}
+
+// What is told of a command.
+fn command<A: App>(app: &A, number: u32) -> (CommandKind, Option<Label>)
+    requires { IsCommand (A.kinds_of app.now) number }
+{
+    (app.kind(number), app.result(number))
+}
+
+// The step of a unit.
+fn step<A: App>(
+    app: &A,
+    alloc: Global,
+    unit: A::Unit,
+    inputs: Inputs<A::Value, A::Cell>,
+) -> Result<Effects<A::Unit, A::Value, A::Cell>, OutOfMemory>
+    requires unit { A.is_unit app.now unit }
+    requires values { length inputs.values ≡ length (A.needs_of app.now unit) }
+    requires cells { length inputs.cells ≡ length (A.reads_of app.now unit) }
+{
+    app.step(alloc, unit, inputs)
+}
+
+#[test]
+fn commands_are_work_fence_work(rt: HostRuntime) {
+    let app = app(4);
+    assert_eq!(rt; App::commands(&app), 3);
+    let first = (CommandKind::Work, Some(future(1, 1)));
+    let last = (CommandKind::Work, Some(future(3, 1)));
+    assert!(rt; command(&app, 1) == first && command(&app, 3) == last);
+    assert!(rt; command(&app, 2) == (CommandKind::Fence, None));
+    assert!(rt;
+        app.dropped(2, 0) == Some(1) && app.dropped(2, 1).is_none() && app.dropped(1, 0).is_none()
+    );
+}
+
+#[test]
+fn units_have_their_names_and_ranks(rt: HostRuntime) {
+    let app = app(4);
+    let leaf = |right: bool| Unit::Leaf {
+        right,
+        value: if right { 7 } else { 5 },
+    };
+    let cases = [
+        (Unit::Fill, 0, 1, Some(future(1, 1)), [0, 0, 0]),
+        (leaf(false), 0, 2, Some(future(1, 2)), [0, 1, 1]),
+        (leaf(true), 0, 3, Some(future(1, 3)), [0, 0, 2]),
+        (Unit::Sum, 1, 1, Some(future(1, 1)), [0, 0, 0]),
+        (Unit::Clear, 2, 3, None, [0, 0, 2]),
+        (Unit::Read, 0, 2, Some(future(3, 2)), [0, 1, 1]),
+        (Unit::Count, 0, 3, Some(future(3, 3)), [0, 1, 1]),
+        (Unit::Total, 1, 1, Some(future(3, 1)), [0, 0, 0]),
+    ];
+    for (unit, part, place, due, homes) in cases {
+        let reads = if unit == Unit::Read {
+            Some(entry(2))
+        } else {
+            None
+        };
+        let counts = if unit == Unit::Count { Some(1) } else { None };
+        for (ranks, home) in [1, 2, 16].into_iter().zip(homes) {
+            let (label, has, at, read, counted) = told(&app, &unit, ranks);
+            assert!(rt; (label.part, label.place) == (part, place) && has == due);
+            assert!(rt; at == home && read == reads && counted == counts);
+        }
+        assert!(rt; app.reads(&unit, 1).is_none());
+    }
+}
+
+#[test]
+fn rank_three_keeps_the_last_result(rt: HostRuntime) {
+    let app = app(4);
+    for (ranks, home) in [(1, 0), (3, 0), (4, 3), (16, 3)] {
+        assert_eq!(rt; App::future_home(&app, &future(3, 1), ranks), home);
+        assert_eq!(rt; App::future_home(&app, &future(3, 2), ranks), 0);
+    }
+}
+
+// Whether these are the effects.
+fn are(
+    effects: Result<Effects<Unit, u64, u32>, OutOfMemory>,
+    expected: &[Effect<Unit, u64, u32>],
+) -> bool {
+    match effects {
+        Ok(effects) => effects.into_vec().as_slice() == expected,
+        Err(_) => false,
+    }
+}
+
+fn needing(unit: Unit, first: Label, second: Label) -> Effect<Unit, u64, u32> {
+    Effect::SpawnNeeding(unit, Needs::of(&[first, second]).unwrap_or(Needs::none()))
+}
+
+#[test]
+fn commands_start_their_units(rt: HostRuntime) {
+    let app = app(4);
+    let alloc = rt.alloc();
+    let last = [
+        Effect::Spawn(Unit::Read),
+        Effect::Spawn(Unit::Count),
+        needing(Unit::Total, future(3, 2), future(3, 3)),
+    ];
+    assert!(rt; are(app.starts(alloc, 1, 4), &[Effect::Spawn(Unit::Fill)]));
+    assert!(rt; are(app.starts(alloc, 2, 4), &[]));
+    assert!(rt; are(app.starts(alloc, 3, 1), &last));
+}
+
+#[test]
+fn the_first_command_gives_twelve(rt: HostRuntime) -> Result<(), Fail> {
+    let app = app(4);
+    let alloc = rt.alloc();
+    let none = || Inputs::new(Vec::new(alloc), Vec::new(alloc), 0);
+    let left = Unit::Leaf {
+        right: false,
+        value: 5,
+    };
+    let right = Unit::Leaf {
+        right: true,
+        value: 7,
+    };
+    let filled = [
+        Effect::Spawn(left),
+        Effect::Spawn(right),
+        needing(Unit::Sum, future(1, 2), future(1, 3)),
+    ];
+    assert!(rt; are(step(&app, alloc, Unit::Fill, none()), &filled));
+    let put = [Effect::Put(entry(3), 7), Effect::Give(future(1, 3), 7)];
+    assert!(rt; are(step(&app, alloc, right, none()), &put));
+    let values = [5u64, 7].to_vec(alloc)?;
+    let given = Inputs::new(values, Vec::new(alloc), 0);
+    let summed = [Effect::Spawn(Unit::Clear), Effect::Give(future(1, 1), 12)];
+    assert!(rt; are(step(&app, alloc, Unit::Sum, given), &summed));
+    assert!(rt;
+        are(
+            step(&app, alloc, Unit::Clear, none()),
+            &[Effect::Erase(entry(3))]
+        )
+    );
+    Ok(())
+}
+
+#[test]
+fn the_last_command_gives_fifty_one(rt: HostRuntime) -> Result<(), Fail> {
+    let app = app(4);
+    let alloc = rt.alloc();
+    let cells = [5u32].to_vec(alloc)?;
+    let read = Inputs::new(Vec::new(alloc), cells, 0);
+    assert!(rt;
+        are(
+            step(&app, alloc, Unit::Read, read),
+            &[Effect::Give(future(3, 2), 5)]
+        )
+    );
+    let counted = Inputs::new(Vec::new(alloc), Vec::new(alloc), 1);
+    assert!(rt;
+        are(
+            step(&app, alloc, Unit::Count, counted),
+            &[Effect::Give(future(3, 3), 1)]
+        )
+    );
+    let values = [5u64, 1].to_vec(alloc)?;
+    let given = Inputs::new(values, Vec::new(alloc), 0);
+    assert!(rt;
+        are(
+            step(&app, alloc, Unit::Total, given),
+            &[Effect::Give(future(3, 1), 51)]
+        )
+    );
+    assert_eq!(rt; app.copy_value(alloc, &51), Ok(51));
+    Ok(())
+}
+
+#[test]
+fn a_second_thread_finds_what_a_step_gives(rt: HostRuntime) {
+    let app = app(4);
+    let alloc = rt.alloc();
+    let left = Unit::Leaf {
+        right: false,
+        value: 5,
+    };
+    for (sought, expected) in [(future(1, 2), Some(5)), (future(1, 3), None)] {
+        let none = Inputs::new(Vec::new(alloc), Vec::new(alloc), 0);
+        let found = step_and_look(&rt, alloc, &app, left, none, sought);
+        assert_eq!(rt; found, Ok(expected));
+    }
+}
+
+// The laws of any application, at this one.
+#[test]
+fn laws_hold_here() {
+    laws::right_inputs_fit::<SmallApp>();
+    laws::spawns_of_a_step_are_apart::<SmallApp>();
+    laws::starts_of_a_command_are_apart::<SmallApp>();
+}
