@@ -139,24 +139,24 @@ pub fn forms_of_trees()
 /// A version has the number of the command that writes it, and a fence ends itself.
 pub fn plans()
     ensures { plan_of (record {
-          depth = 0;
-          commands = Project (codes "f") (record { function = Const (pos 1); level = 0; tolerance = 0 })
-              ∷ Refine (codes "f") 0 ∷ Fence ∷ Mul (codes "g") (codes "f") (codes "f") ∷ Print (codes "g") ∷ [];
-        })
+      depth = 0;
+      commands = Project (codes "f") (record { function = Const (pos 1); level = 0; tolerance = 0 })
+          ∷ Refine (codes "f") 0 ∷ Fence ∷ Mul (codes "g") (codes "f") (codes "f") ∷ Print (codes "g") ∷ [];
+    })
         ≡ record { reads = Nothing; writes = Some 1; fence = 1 }
-            ∷ record { reads = One 1; writes = Some 2; fence = 1 }
-            ∷ record { reads = Nothing; writes = None; fence = 1 }
-            ∷ record { reads = Two 2 2; writes = Some 4; fence = 2 }
-            ∷ record { reads = One 4; writes = None; fence = 2 } ∷ [] }
+        ∷ record { reads = One 1; writes = Some 2; fence = 1 }
+        ∷ record { reads = Nothing; writes = None; fence = 1 }
+        ∷ record { reads = Two 2 2; writes = Some 4; fence = 2 }
+        ∷ record { reads = One 4; writes = None; fence = 2 } ∷ [] }
 {}
 
 /// The canonical text has single spaces, and a line feed after each line.
 pub fn canonical_texts()
     ensures { canonical_text (record {
-          depth = 16;
-          commands = Project (codes "f") (record { function = Hash 0 12; level = 0; tolerance = 7 })
-              ∷ Add (codes "s") (negsuc 9) (codes "f") (pos 0) (codes "f") ∷ Fence ∷ [];
-        })
+      depth = 16;
+      commands = Project (codes "f") (record { function = Hash 0 12; level = 0; tolerance = 7 })
+          ∷ Add (codes "s") (negsuc 9) (codes "f") (pos 0) (codes "f") ∷ Fence ∷ [];
+    })
         ≡ codes "job 1 depth 16\nproject f hash 0 12 level 0 tol 7\nadd s = -10 f + 0 f\nfence\n" }
 {}
 
