@@ -1,6 +1,6 @@
 -- The canonical text of a job reads as the job.
-use Rattle.std.proofs.Common.{◌≡◌, ℕ, ◌+◌, ◌<◌, ◌≤◌, ◌^◌, ◌-◌, Bool, true, false, List, [], ◌∷◌, ◌++◌, length, take, get_or, map, refl, sym, ◌∙◌, ap, subst, arith, append_assoc, append-nil, ℤ, pos, negsuc, lit<, lit≤}
-use Rattle.std.specs.Prelude.{◌&&◌, nat_le, nat_lt, codes, decimal, Option, Some, None, Result, Ok, Err, if◌then◌else◌}
+use Rattle.std.proofs.Common.{◌≡◌, ℕ, ◌+◌, ◌<◌, ◌≤◌, ◌^◌, ◌-◌, Bool, true, false, List, [], ◌∷◌, ◌++◌, length, take, get_or, map, refl, sym, ◌∙◌, ap, arith, append_assoc, append-nil, ℤ, pos, lit≤}
+use Rattle.std.specs.Prelude.{◌&&◌, nat_le, nat_lt, codes, decimal, Some, Result, Ok}
 use Rattle.std.specs.Fmt.{signed_decimal}
 use Rattle.std.specs.Int.RustNames.{unsigned_abs}
 use Rattle.std.specs.List.{flat_map, list_all}
@@ -17,13 +17,13 @@ use Rattle.tree_model.specs.Functions.Function.{Const, Ramp, Step, Box, Hash}
 use Rattle.tree_model.specs.Jobs.{JobData}
 use Rattle.job_lang.specs.declared.function_form.FunctionForm.{FunctionForm}
 use Rattle.job_lang.specs.declared.function_form.FunctionForm.TheVariants.{Const as ConstForm, Ramp as RampForm, Step as StepForm, Box as BoxForm, Hash as HashForm}
-use Rattle.job_lang.specs.Canonical.{function_words, command_words, header_words, spaced, line_of, command_text, canonical_text}
-use Rattle.job_lang.specs.Checks.{has_names, has_numbers, is_within_limits, is_factor, max_factor, has_room, has_trees, has_forms, is_near_fence, may_follow, is_accepted, are_accepted, IsJob}
-use Rattle.job_lang.specs.Grammar.{◌>>=◌, Words, name_at, number_at, size_at, function_at, function_of_form, header_of, verb_of, form_of, command_of_form}
+use Rattle.job_lang.specs.Canonical.{function_words, command_words, header_words, line_of, command_text, canonical_text}
+use Rattle.job_lang.specs.Checks.{has_names, has_numbers, is_within_limits, is_factor, has_room, has_trees, has_forms, is_near_fence, may_follow, is_accepted, are_accepted, IsJob}
+use Rattle.job_lang.specs.Grammar.{Words, name_at, function_at, function_of_form, header_of}
 use Rattle.job_lang.specs.Lines.{words, is_passed_over}
 use Rattle.job_lang.specs.Names.{is_name}
 use Rattle.job_lang.specs.Numbers.{number}
-use Rattle.job_lang.specs.Reading.{Header, checked, read, checked_command, command_of_words, command_of_line, depth_of_line, header_behind, header_from, commands_from, job_with, job_behind, reading_of, is_allowed}
+use Rattle.job_lang.specs.Reading.{checked, read, checked_command, command_of_words, command_of_line, depth_of_line, header_from, commands_from, job_with, job_behind, reading_of}
 use Rattle.job_lang.proofs.WordLaws.{IsWord, AreWords, words-line_of, line_of-printable, line_of-allowed, lines-line, decimal-word, number-decimal, number-signed, signed-word, name-word}
 
 abbrev Small : ℤ → Type 0

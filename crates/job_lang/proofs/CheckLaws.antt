@@ -1,20 +1,12 @@
 -- What the checks of commands say of one more command.
 use Rattle.std.proofs.Common.{◌≡◌, ℕ, zero, suc, ◌+◌, ◌<◌, Bool, false, length, take, drop, get_or, List, [], ◌∷◌, ◌++◌, map, refl, sym, ◌∙◌, ap, true, append_assoc, append-nil, arith}
-use Rattle.std.specs.Prelude.{◌&&◌, if◌then◌else◌, Option, Some, None, IfSome}
-use Rattle.std.specs.Bool.{then_some}
-use Rattle.std.specs.Option.{option_map}
+use Rattle.std.specs.Prelude.{◌&&◌, if◌then◌else◌}
 use Rattle.std.proofs.lemmas.Bool.{and_parts}
 use Rattle.std.proofs.lemmas.List.{map-append, take_more}
-use Rattle.std.proofs.lemmas.Option.{cond_some}
 use Rattle.std.proofs.Math.Bool.{and_assoc, and-true}
 use Rattle.tree_model.specs.Commands.{Command}
 use Rattle.tree_model.specs.Jobs.{JobData}
-use Rattle.job_lang.specs.declared.command.Command.{Command as CommandCode}
-use Rattle.job_lang.specs.Data.{data_of}
 use Rattle.job_lang.specs.Checks.{IsJob}
-use Rattle.job_lang.specs.Grammar.{◌>>=◌, Words, Form, form_of, command_of_form}
-use Rattle.job_lang.specs.Limits.{limited_command}
-use Rattle.job_lang.specs.Reading.{command_of_words}
 use Rattle.job_lang.specs.Checks.{brings_tree, trees_behind, is_within_limits, may_follow, is_accepted, are_accepted}
 
 -- one more command, behind all others

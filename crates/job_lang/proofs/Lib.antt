@@ -8,3 +8,4 @@ pub mod ReadLaws
 pub mod WordLaws
 pub mod CanonicalLaws
 pub mod PlanLaws
+pub mod KindLaws

@@ -15,3 +15,4 @@ pub mod Recalls
 pub mod Accepted
 pub mod Faults
 pub mod Canonical
+pub mod Kinds

@@ -1,6 +1,6 @@
 -- The versions that the commands of a job read and write, and the fences that end them. A version has the number of the
 -- command that writes it; commands are numbered from 1, and so are fences.
-use Rattle.std.specs.Prelude.{ℕ, ◌+◌, Bool, ◌&&◌, nat_le, List, [], ◌∷◌, ◌++◌, length, count_by, Option, Some, None, if◌then◌else◌}
+use Rattle.std.specs.Prelude.{ℕ, ◌+◌, Bool, ◌&&◌, nat_le, List, [], ◌∷◌, ◌++◌, length, count_by, if◌then◌else◌}
 use Rattle.std.specs.Option.{option_map}
 use Rattle.tree_model.specs.Commands.{Command, writes}
 use Rattle.tree_model.specs.Jobs.{JobData}

@@ -5,6 +5,7 @@ ghost use Rattle.haar_node.specs.Func.{function_of};
 ghost use Rattle.job_lang.specs.Canonical.{canonical_text, command_text, command_words, function_words, header_words, line_of, spaced};
 ghost use Rattle.job_lang.specs.Data.{data_of};
 ghost use Rattle.job_lang.specs.Reading.{reading_of};
+ghost use Rattle.tree_model.specs.Commands.Command.{Add, Mul, Project};
 
 use crate::command::Command;
 use crate::job::Job;
@@ -97,6 +98,50 @@ fn add_named(text: &mut Text, verb: &[u8], name: &[u8]) -> Result<(), OutOfMemor
     add_word(text, name)
 }
 
+// Adds `project NAME FUNC level N tol T`.
+fn add_projection(
+    text: &mut Text,
+    name: &[u8],
+    function: &Func,
+    level: u8,
+    tolerance: u32,
+) -> Result<(), OutOfMemory>
+    ensures { OnOk result (text.new ≡ text.old ++ line_of (command_words
+        (Project name.now (record { function = function_of function.now; level = level; tolerance = tolerance })))) }
+{
+    add_named(text, b"project", name)?;
+    add_function(text, function)?;
+    add_limits(text, level, tolerance)
+}
+
+// Adds `add NAME = A NAME + B NAME`, from the name and the two terms.
+fn add_sum(
+    text: &mut Text,
+    name: &[u8],
+    left: (i64, &[u8]),
+    right: (i64, &[u8]),
+) -> Result<(), OutOfMemory>
+    ensures { OnOk result (text.new ≡ text.old ++ line_of (command_words
+        (Add name.now left.entry.0 left.entry.1.now right.entry.0 right.entry.1.now))) }
+{
+    add_named(text, b"add", name)?;
+    add_word(text, b"=")?;
+    add_term(text, left.0, left.1)?;
+    add_word(text, b"+")?;
+    add_term(text, right.0, right.1)
+}
+
+// Adds `mul NAME = NAME * NAME`.
+fn add_product(text: &mut Text, name: &[u8], left: &[u8], right: &[u8]) -> Result<(), OutOfMemory>
+    ensures { OnOk result (text.new ≡ text.old ++ line_of (command_words (Mul name.now left.now right.now))) }
+{
+    add_named(text, b"mul", name)?;
+    add_word(text, b"=")?;
+    add_word(text, left)?;
+    add_word(text, b"*")?;
+    add_word(text, right)
+}
+
 // Adds the words of a command, with single spaces between them.
 fn add_words(text: &mut Text, command: &Command) -> Result<(), OutOfMemory>
     ensures { OnOk result (text.new ≡ text.old ++ line_of (command_words (data_of command.now))) }
@@ -107,11 +152,7 @@ fn add_words(text: &mut Text, command: &Command) -> Result<(), OutOfMemory>
             function,
             level,
             tolerance,
-        } => {
-            add_named(text, b"project", name.bytes())?;
-            add_function(text, function)?;
-            add_limits(text, *level, *tolerance)
-        }
+        } => add_projection(text, name.bytes(), function, *level, *tolerance),
         Command::Refine { name, level } => {
             add_named(text, b"refine", name.bytes())?;
             add_size(text, u32::from(*level))
@@ -125,18 +166,12 @@ fn add_words(text: &mut Text, command: &Command) -> Result<(), OutOfMemory>
             right_factor,
             right,
         } => {
-            add_named(text, b"add", name.bytes())?;
-            add_word(text, b"=")?;
-            add_term(text, *left_factor, left.bytes())?;
-            add_word(text, b"+")?;
-            add_term(text, *right_factor, right.bytes())
+            let left = (*left_factor, left.bytes());
+            let right = (*right_factor, right.bytes());
+            add_sum(text, name.bytes(), left, right)
         }
         Command::Mul { name, left, right } => {
-            add_named(text, b"mul", name.bytes())?;
-            add_word(text, b"=")?;
-            add_word(text, left.bytes())?;
-            add_word(text, b"*")?;
-            add_word(text, right.bytes())
+            add_product(text, name.bytes(), left.bytes(), right.bytes())
         }
         Command::Inner { left, right } => {
             add_named(text, b"inner", left.bytes())?;

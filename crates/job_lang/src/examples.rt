@@ -1,11 +1,14 @@
 //! The reading of bytes, computed on small texts. What is expected was worked out by hand.
 ghost use Rattle.std.specs.Prelude.{◌≡◌, true, false, [], ◌∷◌, ◌++◌, Some, None, Ok, Err, codes, pos, negsuc};
 ghost use Rattle.tree_model.specs.Functions.Function.{Const, Hash, Ramp};
-ghost use Rattle.tree_model.specs.Commands.Command.{Add, Compress, Fence, Inner, Mul, Print, Project, Reconstruct};
+ghost use Rattle.tree_model.specs.Commands.Command.{Add, Compress, Fence, Inner, Mul, Print, Project, Reconstruct, Refine};
+ghost use Rattle.job_lang.specs.Canonical.{canonical_text};
 ghost use Rattle.job_lang.specs.Faults.{fault_line};
 ghost use Rattle.job_lang.specs.Names.{is_name};
 ghost use Rattle.job_lang.specs.Numbers.{number};
 ghost use Rattle.job_lang.specs.Reading.{reading_of};
+ghost use Rattle.job_lang.specs.Versions.{plan_of};
+ghost use Rattle.job_lang.specs.declared.sources.Sources.TheVariants.{Nothing, One, Two};
 
 /// Without any line the header is missing on line 1.
 pub fn empty_input()
@@ -131,6 +134,30 @@ pub fn forms_of_trees()
               ∷ Compress (codes "f") ∷ Reconstruct (codes "f") ∷ Mul (codes "g") (codes "f") (codes "f") ∷ Fence ∷ [];
         }) }
     ensures factor_too_large { reading_of (codes "job 1 depth 0\nproject f const 1 level 0 tol 0\ncompress f\nadd f = 1048577 f + 0 f") ≡ Err (record { line = 4; kind = 5 }) }
+{}
+
+/// A version has the number of the command that writes it, and a fence ends itself.
+pub fn plans()
+    ensures { plan_of (record {
+      depth = 0;
+      commands = Project (codes "f") (record { function = Const (pos 1); level = 0; tolerance = 0 })
+          ∷ Refine (codes "f") 0 ∷ Fence ∷ Mul (codes "g") (codes "f") (codes "f") ∷ Print (codes "g") ∷ [];
+    })
+        ≡ record { reads = Nothing; writes = Some 1; fence = 1 }
+        ∷ record { reads = One 1; writes = Some 2; fence = 1 }
+        ∷ record { reads = Nothing; writes = None; fence = 1 }
+        ∷ record { reads = Two 2 2; writes = Some 4; fence = 2 }
+        ∷ record { reads = One 4; writes = None; fence = 2 } ∷ [] }
+{}
+
+/// The canonical text has single spaces, and a line feed after each line.
+pub fn canonical_texts()
+    ensures { canonical_text (record {
+      depth = 16;
+      commands = Project (codes "f") (record { function = Hash 0 12; level = 0; tolerance = 7 })
+          ∷ Add (codes "s") (negsuc 9) (codes "f") (pos 0) (codes "f") ∷ Fence ∷ [];
+    })
+        ≡ codes "job 1 depth 16\nproject f hash 0 12 level 0 tol 7\nadd s = -10 f + 0 f\nfence\n" }
 {}
 
 /// The lines that tell faults.

@@ -17,6 +17,7 @@ mod form;
 mod function_form;
 mod history;
 mod job;
+pub mod laws;
 mod limits;
 mod lines;
 mod names;

@@ -1,10 +1,11 @@
 //! Commands of forms whose numbers are within their limits.
-ghost use Rattle.std.specs.Prelude.{◌≡◌, true, IfOk, IfSome};
+ghost use Rattle.std.specs.Prelude.{◌≡◌, true, IfOk, IfSome, Some};
 ghost use Rattle.std.specs.Option.{option_map};
 ghost use Rattle.job_lang.specs.Checks.{has_names};
 ghost use Rattle.job_lang.specs.Code.{form_data, projection_read};
 ghost use Rattle.job_lang.specs.Data.{data_of};
-ghost use Rattle.job_lang.specs.Grammar.Form.{AddForm, MulForm, InnerForm, ProjectForm, RefineForm};
+ghost use Rattle.job_lang.specs.Grammar.Form.{AddForm, ProjectForm, RefineForm};
+ghost use Rattle.tree_model.specs.Commands.Command.{Inner as InnerCommand, Mul as MulCommand};
 ghost use Rattle.job_lang.specs.Limits.{limited_command, limited_projection};
 
 use crate::command::{Command, is_factor};
@@ -103,6 +104,38 @@ fn add_command(
     }))
 }
 
+// `mul NAME = NAME * NAME`
+fn mul_command(
+    alloc: Global,
+    name: Name<'_>,
+    left: Name<'_>,
+    right: Name<'_>,
+) -> Result<Option<Command>, AllocError>
+    ensures command { IfOk result (λ o. option_map data_of o
+        ≡ Some (MulCommand name.entry.bytes.now left.entry.bytes.now right.entry.bytes.now)) }
+    ensures names { IfOk result (λ o. IfSome o (λ c. has_names (data_of c) ≡ true)) }
+{
+    let name = name.to_text(alloc)?;
+    let left = left.to_text(alloc)?;
+    let right = right.to_text(alloc)?;
+    Ok(Some(Command::Mul { name, left, right }))
+}
+
+// `inner NAME NAME`
+fn inner_command(
+    alloc: Global,
+    left: Name<'_>,
+    right: Name<'_>,
+) -> Result<Option<Command>, AllocError>
+    ensures command { IfOk result (λ o. option_map data_of o
+        ≡ Some (InnerCommand left.entry.bytes.now right.entry.bytes.now)) }
+    ensures names { IfOk result (λ o. IfSome o (λ c. has_names (data_of c) ≡ true)) }
+{
+    let left = left.to_text(alloc)?;
+    let right = right.to_text(alloc)?;
+    Ok(Some(Command::Inner { left, right }))
+}
+
 impl<'a> Form<'a> {
     /// The command of the form, with names of its own. None exactly where a number isn't within its limits at the depth.
     pub fn to_command(&self, alloc: Global, depth: u8) -> Result<Option<Command>, AllocError>
@@ -138,17 +171,8 @@ impl<'a> Form<'a> {
                 (left_factor, left),
                 (right_factor, right),
             ),
-            Form::Mul { name, left, right } => {
-                let name = name.to_text(alloc)?;
-                let left = left.to_text(alloc)?;
-                let right = right.to_text(alloc)?;
-                Ok(Some(Command::Mul { name, left, right }))
-            }
-            Form::Inner { left, right } => {
-                let left = left.to_text(alloc)?;
-                let right = right.to_text(alloc)?;
-                Ok(Some(Command::Inner { left, right }))
-            }
+            Form::Mul { name, left, right } => mul_command(alloc, name, left, right),
+            Form::Inner { left, right } => inner_command(alloc, left, right),
             Form::Print { name } => {
                 let name = name.to_text(alloc)?;
                 Ok(Some(Command::Print { name }))

@@ -2,7 +2,6 @@ use Rattle.std.proofs.Common.{◌≡◌, [], map, take, true, sym, ◌∙◌, ap
 use Rattle.std.proofs.lemmas.List.{get_or-map, length-map, take-map}
 use Rattle.job_lang.specs.Checks.{may_follow}
 use Rattle.job_lang.specs.Data.{data_of}
-use Rattle.job_lang.specs.Recalls.{Recalls}
 use Rattle.job_lang.proofs.CheckLaws.{are_accepted-at, follows-accepted, map-take-more}
 use Rattle.job_lang.proofs.job.trees_of.Goals as goal
 

@@ -1,6 +1,5 @@
-use Rattle.std.proofs.Common.{◌≡◌, sym, ◌∙◌, ap, w64}
+use Rattle.std.proofs.Common.{w64}
 use Rattle.std.proofs.lemmas.Int.{to_z-of_z}
-use Rattle.haar_node.specs.Func.{function_of}
 use Rattle.job_lang.proofs.LimitLaws.{limited_project}
 use Rattle.job_lang.proofs.limits.project_command.Goals as goal
 

@@ -1,4 +1,4 @@
-use Rattle.std.proofs.Common.{◌≡◌, map, sym, ◌∙◌, ap}
+use Rattle.std.proofs.Common.{ap}
 use Rattle.tree_model.specs.Jobs.{JobData}
 use Rattle.job_lang.specs.Data.{data_of}
 use Rattle.job_lang.proofs.ReadLaws.{checked-accepted}

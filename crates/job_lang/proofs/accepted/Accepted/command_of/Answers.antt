@@ -1,4 +1,4 @@
-use Rattle.std.proofs.Common.{◌≡◌, ◌∷◌, map, sym, ◌∙◌, ap, rules}
+use Rattle.std.proofs.Common.{◌≡◌, ◌∷◌, sym, ◌∙◌, ap, rules}
 use Rattle.std.specs.Option.{option_map}
 use Rattle.tree_model.specs.Jobs.{JobData}
 use Rattle.job_lang.specs.Code.{form_data}

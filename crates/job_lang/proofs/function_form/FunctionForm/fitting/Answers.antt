@@ -1,4 +1,4 @@
-use Rattle.std.proofs.Common.{◌≡◌, sym, ◌∙◌, ap}
+use Rattle.std.proofs.Common.{sym, ◌∙◌, ap}
 use Rattle.std.specs.Option.{option_map}
 use Rattle.haar_node.specs.Func.{function_of}
 use Rattle.job_lang.proofs.LimitLaws.{fitting-fits, fitting-unfit, fitting-none}
