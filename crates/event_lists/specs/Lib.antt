@@ -1,2 +1,9 @@
 pub mod Rows
 pub mod RowsLaws
+pub mod Events
+pub mod Futures
+pub mod Counting
+pub mod Dues
+pub mod Fences
+pub mod Bins
+pub mod Legal

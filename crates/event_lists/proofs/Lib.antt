@@ -1,0 +1,5 @@
+pub mod Lists
+pub mod Waiting
+pub mod Sums
+pub mod Passes
+pub mod Moments
