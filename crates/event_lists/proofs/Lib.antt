@@ -3,3 +3,4 @@ pub mod Waiting
 pub mod Sums
 pub mod Passes
 pub mod Moments
+pub mod Agreed

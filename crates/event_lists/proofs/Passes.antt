@@ -2,7 +2,7 @@
 -- after it no count changes.
 use Rattle.std.proofs.Common.{◌≡◌, ◌≢◌, ◌⊎◌, ℕ, zero, suc, ◌+◌, ◌<◌, ◌≤◌, Bool, true, false, List, [], ◌∷◌, ◌++◌, refl, sym, ap, ◌∙◌, subst, inl, inr, ⊎_elim, arith}
 use Rattle.std.specs.Prelude.{if◌then◌else◌, ◌==◌, ◌&&◌, ◌||◌, Option, Some, None}
-use Rattle.std.proofs.lemmas.Bool.{and_from, eq-eqb}
+use Rattle.std.proofs.lemmas.Bool.{and_from, eq-eqb, eqb-true}
 use Rattle.event_lists.specs.declared.lane.LaneName.{LaneName}
 use Rattle.event_lists.specs.declared.event.Event.{Event}
 use Rattle.event_lists.specs.declared.event.Event.TheVariants.{Sent, TookMessage, TookTask, Handled, Submitted, Ran}
@@ -14,7 +14,7 @@ use Rattle.event_lists.specs.Counting.{Counting}
 use Rattle.event_lists.specs.Fences.{sum_ranks}
 use Rattle.event_lists.specs.Legal.{Legal, May}
 use Rattle.event_lists.proofs.Lists.{one_if, same_lane_true, legal_begins, begins_refl, begins_trans, begins_tail, count_grows, count_begins}
-use Rattle.event_lists.proofs.Waiting.{Holds, waiting, hand_waits, ends_hand, new_or_old, weighed, no_weight}
+use Rattle.event_lists.proofs.Waiting.{Holds, waiting, hand_waits, ends_hand, new_or_old, made_now, weighed, no_weight}
 use Rattle.event_lists.proofs.Sums.{squeezed, same_sum, totals, message_weight, task_weight, made_messages, ended_messages, made_tasks, ended_tasks, hand_rank, makes_task, waiting_rank, no_effect, off}
 
 -- what is in hand stays there until it is ended
@@ -159,6 +159,38 @@ module _ (ranks workers : ℕ) (end M : List Mark) (h1 r1 u1 s1 h2 s2 : ℕ → 
       (λ r m i. let same = hand_rank ranks workers log at.1 x.lane r m i ∙ is in no_task q b more before m (subst (λ (z : ℕ). Holds (waiting log) (Task z m)) same (hand_waits ranks workers log at.1 x.lane (Task r m) i))))
       (λ old. no_task q b more before n old)
       (new_or_old x log (Task q n) w)
+
+  -- so none was submitted since
+  tasks_frozen : (q : ℕ) → q < ranks → (more : List Mark) → Begins (more ++ r1 q) M → count submissions q (more ++ r1 q) ≡ count submissions q (r1 q)
+  tasks_frozen q b [] to = refl
+  tasks_frozen q b (x ∷ more) to = go x.event refl (and_cases_of (x.lane.rank == q) (is_kind submissions x.event)) (tasks_frozen q b more (begins_tail x (more ++ r1 q) M to))
+    where
+      made : (e : Event) → is_kind submissions e ≡ true → (n : ℕ) × (makes x.lane.rank e ≡ Some (Task x.lane.rank n))
+      made (Submitted n t) i = (n, refl)
+      made e i = absurd (cc)
+
+      and_cases_of : (c d : Bool) → (((c && d) ≡ true) × (c ≡ true) × (d ≡ true)) ⊎ ((c && d) ≡ false)
+      and_cases_of true true = inl (refl, refl, refl)
+      and_cases_of true false = inr refl
+      and_cases_of false d = inr refl
+
+      go : (e : Event) → x.event ≡ e → ((counts submissions q x ≡ true) × ((x.lane.rank == q) ≡ true) × (is_kind submissions x.event ≡ true)) ⊎ (counts submissions q x ≡ false) → count submissions q (more ++ r1 q) ≡ count submissions q (r1 q) → count submissions q (x ∷ more ++ r1 q) ≡ count submissions q (r1 q)
+      go e i (inl c) rest =
+          let m = made x.event c.2 in
+          let is = eqb-true x.lane.rank q c.1 in
+          let holds : Holds (waiting (x ∷ more ++ r1 q)) (Task q m.0) = subst (λ (z : ℕ). Holds (waiting (x ∷ more ++ r1 q)) (Task z m.0)) is (made_now x (more ++ r1 q) (Task x.lane.rank m.0) m.1) in
+          absurd (no_task q b (x ∷ more) to m.0 holds)
+      go e i (inr c) rest = ap (λ (z : Bool). one_if z + count submissions q (more ++ r1 q)) c ∙ rest_of rest
+        where
+          rest_of : count submissions q (more ++ r1 q) ≡ count submissions q (r1 q) → 0 + count submissions q (more ++ r1 q) ≡ count submissions q (r1 q)
+          rest_of h = omega arith
+
+  pub tasks_stay : (q : ℕ) → q < ranks → count submissions q (u1 q) ≡ count submissions q M
+  tasks_stay q b =
+      let f = p.first q b in
+      let to = begins_trans (r1 q) (u1 q) M f.1 f.2 in
+      let same : count submissions q M ≡ count submissions q (r1 q) = ap (count submissions q) to.1 ∙ tasks_frozen q b to.0 (subst (λ (z : List Mark). Begins z M) to.1 (begins_refl M)) in
+      omega (arith, same, count_begins submissions q (r1 q) (u1 q) f.1, count_begins submissions q (u1 q) M f.2)
 
   -- at M nothing is left undone
   pub nothing_waits : (c : Item) → Holds (waiting M) c → ⊥

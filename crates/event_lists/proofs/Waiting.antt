@@ -131,11 +131,15 @@ makes_or_made c x log m = go (is_item c (makes x.lane.rank x.event)) refl m
     go true e m = inl (is_item_some c (makes x.lane.rank x.event) e)
     go false e m = inr (omega arith)
 
+-- what is made waits
+pub made_now : (x : Mark) (log : List Mark) (c : Item) → makes x.lane.rank x.event ≡ Some c → Holds (waiting (x ∷ log)) c
+made_now x log c e = subst (λ (o : Option Item). Holds (added o (dropped (ends x.event) (waiting log))) c) (sym e) (inl refl)
+
 -- what was made and not taken waits
 pub made_waits : (ranks workers : ℕ) (log : List Mark) → Legal ranks workers log → (c : Item) → 1 ≤ times_made c log → is_taken c log ≡ false → Holds (waiting log) c
 made_waits ranks workers [] h c m t = absurd (omega arith)
 made_waits ranks workers (x ∷ log) h c m t = ⊎_elim
-    (λ e. subst (λ (o : Option Item). Holds (added o (dropped (ends x.event) (waiting log))) c) (sym e) (inl refl))
+    (λ e. made_now x log c e)
     (λ before. let free = untaken c x log t in keeps_waiting x log c (λ e. both_ways (is_taken c log) free (hand_taken x.lane log c (ends_hand x.event c ranks log x.lane (part x.lane log) h.0.counting e))) (made_waits ranks workers log h.1 c before free))
     (makes_or_made c x log m)
 
@@ -238,6 +242,10 @@ weightless c (d ∷ ds) h = go (weightless c ds (λ i. h (inr i))) (same_item c 
 pub ended_once : (c : Item) (ranks workers : ℕ) (log : List Mark) → Legal ranks workers log → (Holds (waiting log) c → ⊥) → 1 ≤ times_made c log → times_ended c log ≡ 1
 ended_once c ranks workers log h none m =
     omega (arith, weightless c (waiting log) none, times c ranks workers log h, made_once ranks workers log h c)
+
+-- what doesn't wait ended as often as it was made
+pub all_ended : (c : Item) (ranks workers : ℕ) (log : List Mark) → Legal ranks workers log → (Holds (waiting log) c → ⊥) → times_ended c log ≡ times_made c log
+all_ended c ranks workers log h none = omega (arith, weightless c (waiting log) none, times c ranks workers log h)
 
 in_removed : (d : Item) (ds : List Item) (c : Item) → Holds (remove d ds) c → Holds ds c
 in_removed d [] c h = h

@@ -7,3 +7,4 @@ pub mod Dues
 pub mod Fences
 pub mod Bins
 pub mod Legal
+pub mod Quiet
