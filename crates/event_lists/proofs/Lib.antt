@@ -4,3 +4,7 @@ pub mod Sums
 pub mod Passes
 pub mod Moments
 pub mod Agreed
+pub mod Cuts
+pub mod Owners
+pub mod Given
+pub mod Receipts

@@ -8,3 +8,4 @@ pub mod Fences
 pub mod Bins
 pub mod Legal
 pub mod Quiet
+pub mod Laws
