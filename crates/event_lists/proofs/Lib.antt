@@ -8,3 +8,4 @@ pub mod Cuts
 pub mod Owners
 pub mod Given
 pub mod Receipts
+pub mod Books

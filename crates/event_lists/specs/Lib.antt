@@ -9,3 +9,4 @@ pub mod Bins
 pub mod Legal
 pub mod Quiet
 pub mod Laws
+pub mod Books

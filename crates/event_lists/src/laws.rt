@@ -1,5 +1,7 @@
 //! Laws about legal lists of events: each function's contract is a law, and its body is empty.
 ghost use Rattle.event_lists.specs.Laws.{BeginningsAreLegal, MessagesAreHandledOnce, TasksRunOnce, FuturesAreGivenOnce, CountsAreFrozen, NothingIsOpen, NothingChanges, ReceiptsAreQuiet};
+ghost use Rattle.event_lists.specs.Legal.{Legal};
+ghost use Rattle.event_lists.specs.Books.{first_book, one_pass, second_book, one_reading, third_book, IsIllegal};
 
 /// How a legal list began is legal.
 pub fn beginnings_are_legal()
@@ -35,4 +37,15 @@ pub fn nothing_changes_up_to_the_receipt()
 /// before it ran once; and each need of such a task was given once, before the task was taken.
 pub fn receipts_are_quiet()
     ensures { ReceiptsAreQuiet }
+{}
+
+/// Three lists of a run of one rank that has no commands. The first, with two passes and a receipt, is legal. The second
+/// is legal up to its receipt, which comes after a single pass, and not with it; the third up to its third event, which
+/// reads submitted before ran, and not with it.
+pub fn small_runs_are_judged()
+    ensures two_passes_and_a_receipt { Legal 1 0 first_book }
+    ensures one_pass { Legal 1 0 one_pass }
+    ensures receipt_after_one_pass { IsIllegal second_book }
+    ensures one_reading { Legal 1 0 one_reading }
+    ensures submitted_before_ran { IsIllegal third_book }
 {}

@@ -19,4 +19,5 @@ pub use receipt::{Receipt, Row, Rows};
 pub use laws::{
     beginnings_are_legal, counts_are_frozen, events_are_counted_once,
     nothing_changes_up_to_the_receipt, nothing_is_open_between_the_passes, receipts_are_quiet,
+    small_runs_are_judged,
 };
