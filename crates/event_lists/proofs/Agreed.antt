@@ -188,11 +188,11 @@ settled n workers f d end a at to done =
     let m = middle n workers f d end a in
     ⊎_elim
     (λ (after : length m.at < length at).
-        let from : Begins m.at at = begins_both m.at at m.to.0 to.0 (sym m.to.1 ∙ to.1) (omega arith) in
-        subst (Settled (suc n) workers f (suc d) end a) (sym from.1) (settled_before (suc n) workers f (suc d) end a m.at m.to m.done m.least from.0 (subst (λ (z : List Mark). Begins z end) from.1 to)))
+    let from : Begins m.at at = begins_both m.at at m.to.0 to.0 (sym m.to.1 ∙ to.1) (omega arith) in
+    subst (Settled (suc n) workers f (suc d) end a) (sym from.1) (settled_before (suc n) workers f (suc d) end a m.at m.to m.done m.least from.0 (subst (λ (z : List Mark). Begins z end) from.1 to)))
     (λ (before : length at ≤ length m.at).
-        let first : Begins at m.at = begins_both at m.at to.0 m.to.0 (sym to.1 ∙ m.to.1) before in
-        settled_before (suc n) workers f (suc d) end a at to done (λ q b. begins_trans at m.at (t2 (suc n) workers f (suc d) end a q).of_handled first (m.least q b)) [] to)
+    let first : Begins at m.at = begins_both at m.at to.0 m.to.0 (sym to.1 ∙ m.to.1) before in
+    settled_before (suc n) workers f (suc d) end a at to done (λ q b. begins_trans at m.at (t2 (suc n) workers f (suc d) end a q).of_handled first (m.least q b)) [] to)
     (cases_lt (length m.at) (length at))
 
 pub settled_end : (n workers f d : ℕ) (end : List Mark) (a : Agreed (suc n) workers f (suc d) end) → (c : Item) → Holds (waiting end) c → ⊥
@@ -222,7 +222,7 @@ rows_are_counts n workers f d end a q b row is k =
         let handled_end = begins_trans t.of_handled t.of_ran end o.0 ran_end in
         let between = λ (j : Kind) (at : List Mark) (v : ℕ) (is : v ≡ count j q at) (lo : Begins m.at at) (hi : Begins at end). within j at v is (count_begins j q m.at at lo) (count_begins j q at end hi) (s.counts_stay j q) in
         elim k as (λ j. named j r.row ≡ count j q end) [
-          sends ↦ between sends t.of_sent r.row.sent r.timed.sent_is sent o.3
+          | sends ↦ between sends t.of_sent r.row.sent r.timed.sent_is sent o.3
           | handlings ↦ between handlings t.of_handled r.row.handled r.timed.handled_is low handled_end
           | submissions ↦ between submissions t.of_submitted r.row.tasks r.timed.submitted_is sub sub_end
           | runs ↦ between runs t.of_ran r.row.tasks r.timed.ran_is ran ran_end

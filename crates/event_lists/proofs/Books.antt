@@ -27,7 +27,6 @@ ready_first f log d e = absurd (omega arith)
 ready_second : (f : ℕ) (log : List Mark) (row : Row) → row_of f 1 (part (main_of 0) log) ≡ Some row → IsReady 1 f 2 log
 ready_second f log row i d e = subst (λ (z : ℕ). IsComplete 1 f (suc z) log) (let j : 0 ≡ d = omega arith in j) (complete_one f 1 log row i)
 
-
 abbrev none : Row
 none = record { sent = 0; handled = 0; tasks = 0 }
 
@@ -36,26 +35,26 @@ legal_enter = (record { named = (omega arith, omega arith); counting = tt; dues 
 
 pub legal_reading : Legal 1 0 one_reading
 legal_reading = (
-    record { named = (omega arith, omega arith); counting = tt; dues = tt; fences = (refl, (refl, refl, refl), refl, (tt, ready_first 1 (by_main (Enter 1) ∷ []))); bins = refl },
-    legal_enter,
+  record { named = (omega arith, omega arith); counting = tt; dues = tt; fences = (refl, (refl, refl, refl), refl, (tt, ready_first 1 (by_main (Enter 1) ∷ []))); bins = refl },
+  legal_enter,
 )
 
 legal_ran : Legal 1 0 (by_main (ReadRan 0 1 1) ∷ one_reading)
 legal_ran = (
-    record { named = (omega arith, omega arith); counting = tt; dues = tt; fences = (refl, (refl, refl, refl), refl, (0, [], refl)); bins = refl },
-    legal_reading,
+  record { named = (omega arith, omega arith); counting = tt; dues = tt; fences = (refl, (refl, refl, refl), refl, (0, [], refl)); bins = refl },
+  legal_reading,
 )
 
 legal_submitted : Legal 1 0 (by_main (ReadSubmitted 0 1 1) ∷ (by_main (ReadRan 0 1 1) ∷ one_reading))
 legal_submitted = (
-    record { named = (omega arith, omega arith); counting = tt; dues = tt; fences = (refl, (refl, refl, refl), refl, (0, reading handlings 0 1 1 ∷ [], refl)); bins = refl },
-    legal_ran,
+  record { named = (omega arith, omega arith); counting = tt; dues = tt; fences = (refl, (refl, refl, refl), refl, (0, reading handlings 0 1 1 ∷ [], refl)); bins = refl },
+  legal_ran,
 )
 
 pub legal_pass : Legal 1 0 one_pass
 legal_pass = (
-    record { named = (omega arith, omega arith); counting = tt; dues = tt; fences = (refl, (refl, refl, refl), refl, (0, reading handlings 0 1 1 ∷ [], refl)); bins = refl },
-    legal_submitted,
+  record { named = (omega arith, omega arith); counting = tt; dues = tt; fences = (refl, (refl, refl, refl), refl, (0, reading handlings 0 1 1 ∷ [], refl)); bins = refl },
+  legal_submitted,
 )
 
 -- the readings of the first pass
@@ -64,56 +63,56 @@ first_pass = reading sends 0 1 1 ∷ (reading submissions 0 1 1 ∷ (reading run
 
 legal_again : Legal 1 0 (by_main (ReadHandled 0 1 2) ∷ one_pass)
 legal_again = (
-    record { named = (omega arith, omega arith); counting = tt; dues = tt; fences = (refl, (refl, refl, refl), refl, (inl refl, ready_second 1 one_pass none refl)); bins = refl },
-    legal_pass,
+  record { named = (omega arith, omega arith); counting = tt; dues = tt; fences = (refl, (refl, refl, refl), refl, (inl refl, ready_second 1 one_pass none refl)); bins = refl },
+  legal_pass,
 )
 
 legal_ran_again : Legal 1 0 (by_main (ReadRan 0 1 2) ∷ (by_main (ReadHandled 0 1 2) ∷ one_pass))
 legal_ran_again = (
-    record { named = (omega arith, omega arith); counting = tt; dues = tt; fences = (refl, (refl, refl, refl), refl, (0, first_pass, refl)); bins = refl },
-    legal_again,
+  record { named = (omega arith, omega arith); counting = tt; dues = tt; fences = (refl, (refl, refl, refl), refl, (0, first_pass, refl)); bins = refl },
+  legal_again,
 )
 
 legal_submitted_again : Legal 1 0 (by_main (ReadSubmitted 0 1 2) ∷ (by_main (ReadRan 0 1 2) ∷ (by_main (ReadHandled 0 1 2) ∷ one_pass)))
 legal_submitted_again = (
-    record { named = (omega arith, omega arith); counting = tt; dues = tt; fences = (refl, (refl, refl, refl), refl, (0, reading handlings 0 1 2 ∷ first_pass, refl)); bins = refl },
-    legal_ran_again,
+  record { named = (omega arith, omega arith); counting = tt; dues = tt; fences = (refl, (refl, refl, refl), refl, (0, reading handlings 0 1 2 ∷ first_pass, refl)); bins = refl },
+  legal_ran_again,
 )
 
 legal_passes : Legal 1 0 two_passes
 legal_passes = (
-    record { named = (omega arith, omega arith); counting = tt; dues = tt; fences = (refl, (refl, refl, refl), refl, (0, reading handlings 0 1 2 ∷ first_pass, refl)); bins = refl },
-    legal_submitted_again,
+  record { named = (omega arith, omega arith); counting = tt; dues = tt; fences = (refl, (refl, refl, refl), refl, (0, reading handlings 0 1 2 ∷ first_pass, refl)); bins = refl },
+  legal_submitted_again,
 )
 
 legal_receipt : Legal 1 0 (by_main (Receives (empty_receipt 2)) ∷ two_passes)
 legal_receipt = (
-    record {
-      named = (omega arith, omega arith);
-      counting = tt;
-      dues = tt;
-      fences = (
-          refl,
-          (refl, refl, refl),
-          refl,
-          (
-              0,
-              refl,
-              complete_one 1 1 two_passes none refl,
-              complete_one 1 2 two_passes none refl,
-              record { first = refl; sent_again = refl; handled_again = refl },
-              (refl, each_rank (λ q. row_of 1 2 (part (main_of q) two_passes) ≡ slice_get (none ∷ []) q) refl),
-          ),
-      );
-      bins = refl;
-    },
-    legal_passes,
+  record {
+    named = (omega arith, omega arith);
+    counting = tt;
+    dues = tt;
+    fences = (
+      refl,
+      (refl, refl, refl),
+      refl,
+      (
+        0,
+        refl,
+        complete_one 1 1 two_passes none refl,
+        complete_one 1 2 two_passes none refl,
+        record { first = refl; sent_again = refl; handled_again = refl },
+        (refl, each_rank (λ q. row_of 1 2 (part (main_of q) two_passes) ≡ slice_get (none ∷ []) q) refl),
+      ),
+    );
+    bins = refl;
+  },
+  legal_passes,
 )
 
 pub legal_first : Legal 1 0 first_book
 legal_first = (
-    record { named = (omega arith, omega arith); counting = tt; dues = tt; fences = ((refl, refl, refl), refl); bins = refl },
-    legal_receipt,
+  record { named = (omega arith, omega arith); counting = tt; dues = tt; fences = ((refl, refl, refl), refl); bins = refl },
+  legal_receipt,
 )
 
 -- a receipt after a single pass

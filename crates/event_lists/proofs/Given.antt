@@ -12,13 +12,13 @@ use Rattle.event_lists.specs.declared.event.TaskName.{TaskName}
 use Rattle.event_lists.specs.declared.mark.Item.{Item}
 use Rattle.event_lists.specs.declared.mark.Item.TheVariants.{Message, Task, Effect}
 use Rattle.event_lists.specs.declared.mark.Mark.{Mark}
-use Rattle.event_lists.specs.Events.{Begins, part, in_hand, is_item, makes, takes, times_made, times_ended, IsSubmitted}
+use Rattle.event_lists.specs.Events.{Begins, part, in_hand, is_item, makes, takes, ends, times_made, times_ended, IsSubmitted}
 use Rattle.event_lists.specs.Futures.{Future, is_future, bringer, futures_by, spawned_due, spawned_needs, is_own, due_of_spawn, due_made, due_of, own_due, needs_of, was_due, passes_on, is_fresh, gives, times_given, IsIn}
 use Rattle.event_lists.specs.Counting.{Counting, MaySpawn, MaySubmit}
 use Rattle.event_lists.specs.Dues.{Dues, DueIsFree, KeepsDue, Carries, SubmitsFreely}
 use Rattle.event_lists.specs.Quiet.{AllNeedsGivenOnce, GivenBefore}
 use Rattle.event_lists.specs.Legal.{Legal, May}
-use Rattle.event_lists.proofs.Lists.{one_if, bit, legal_begins, begins_trans, is_item_some, made_here, new_item}
+use Rattle.event_lists.proofs.Lists.{one_if, bit, legal_begins, begins_trans, begins_tail, is_item_some, made_here, new_item}
 use Rattle.event_lists.proofs.Waiting.{Holds, waiting, ends_hand, ended_once, took_fresh}
 use Rattle.event_lists.proofs.Cuts.{ended_at, taken_at}
 use Rattle.event_lists.proofs.Owners.{same_label_refl, is_future_some, due_raised, Owns, Moves, owned, lost_now, owns_back, task_moves, message_moves, spawns, own_label}
@@ -109,13 +109,13 @@ module _ (ranks workers : ℕ) (f : Future) (log : List Mark) (x : Mark) (h : Le
   one_step : (c d : Item) → Owns f (x ∷ log) c → Owns f (x ∷ log) d → c ≡ d
   one_step c d p q = ⊎_elim
       (λ a. ⊎_elim
-          (λ b. let i = a.0 in let j = b.0 in cc)
-          (λ b. absurd (made_alone c d a.0 a.1 q b))
-          (owns_back ranks workers f log x h d q))
+      (λ b. let i = a.0 in let j = b.0 in cc)
+      (λ b. absurd (made_alone c d a.0 a.1 q b))
+      (owns_back ranks workers f log x h d q))
       (λ a. ⊎_elim
-          (λ b. absurd (made_alone d c b.0 b.1 p a))
-          (λ b. s.one c d a b)
-          (owns_back ranks workers f log x h d q))
+      (λ b. absurd (made_alone d c b.0 b.1 p a))
+      (λ b. s.one c d a b)
+      (owns_back ranks workers f log x h d q))
       (owns_back ranks workers f log x h c p)
 
   spent_step : (b : Bool) → is_future f (gives (own log x) x.event) ≡ b → 1 ≤ one_if b + times_given f log → (c : Item) → Owns f (x ∷ log) c → ⊥
@@ -130,9 +130,9 @@ module _ (ranks workers : ℕ) (f : Future) (log : List Mark) (x : Mark) (h : Le
       let given : 1 ≤ times_given f log = omega arith in
       ⊎_elim
       (λ a. ⊎_elim
-          (λ moves. s.spent given moves.item (owned f log x moves))
-          (λ new. both_ways (was_due f.by f.label log) new (given_raised f log given))
-          (made_moves f log x ranks h.0.counting h.0.dues a.1))
+      (λ moves. s.spent given moves.item (owned f log x moves))
+      (λ new. both_ways (was_due f.by f.label log) new (given_raised f log given))
+      (made_moves f log x ranks h.0.counting h.0.dues a.1))
       (λ a. s.spent given c a)
       (owns_back ranks workers f log x h c o)
 
@@ -180,9 +180,30 @@ needs_stay ranks workers (x ∷ more) log h c m = go (is_item c (makes x.lane.ra
         absurd (omega (arith, none, made_grows c more log))
     go false e rest = rest
 
+same_needs : (ranks workers : ℕ) (old log : List Mark) → Begins old log → Legal ranks workers log → (c : Item) → 1 ≤ times_made c old → needs_of c log ≡ needs_of c old
+same_needs ranks workers old log b h c m = ap (needs_of c) b.1 ∙ needs_stay ranks workers b.0 old (subst (Legal ranks workers) b.1 h) c m
+
 task_took : (r n : ℕ) (log : List Mark) (l : LaneName) (mine : List Event) (e : Event) → Dues log l mine e → takes e ≡ Some (Task r n) → (f : Future) → IsIn f (needs_of (Task r n) log) → 1 ≤ times_given f log
 task_took r n log l mine (TookTask q m) a t f i = a f (subst (λ (c : Item). IsIn f (needs_of c log)) (let e : Task r n ≡ Task q m = cc in e) i)
 task_took r n log l mine e a t f i = absurd (cc)
+
+-- the needs of a task that was taken were given once, then and since
+taken_given : (ranks workers : ℕ) (log : List Mark) → Legal ranks workers log → (r n : ℕ) (x : Mark) (earlier : List Mark) → Begins (x ∷ earlier) log → takes x.event ≡ Some (Task r n) → (f : Future) → IsIn f (needs_of (Task r n) log) → (times_given f log ≡ 1) × (times_given f earlier ≡ 1)
+taken_given ranks workers log h r n x earlier to t f i =
+    let at_took = legal_begins ranks workers (x ∷ earlier) log to h in
+    let before : Begins earlier log = begins_tail x earlier log to in
+    let was_made = (took_fresh (Task r n) x.event ranks earlier x.lane (part x.lane earlier) at_took.0.counting t).0 in
+    let needs : needs_of (Task r n) log ≡ needs_of (Task r n) earlier = same_needs ranks workers earlier log before h (Task r n) was_made in
+    let given = task_took r n earlier x.lane (part x.lane earlier) x.event at_took.0.dues t f (subst (IsIn f) needs i) in
+    let grows : times_given f earlier ≤ times_given f log = subst (λ (z : List Mark). times_given f earlier ≤ times_given f z) (sym before.1) (given_grows f before.0 earlier) in
+    (omega (arith, given, grows, given_once ranks workers log h f), omega (arith, given, given_once ranks workers earlier at_took.1 f))
+
+-- a task that ran was taken
+ran_taken : (ranks workers : ℕ) (log : List Mark) → Legal ranks workers log → (c : Item) (x : Mark) (earlier : List Mark) → Begins (x ∷ earlier) log → ends x.event ≡ Some c → (y : Mark) × (before : List Mark) × Begins (y ∷ before) log × (takes y.event ≡ Some c)
+ran_taken ranks workers log h c x earlier to e =
+    let at = legal_begins ranks workers (x ∷ earlier) log to h in
+    let k = taken_at x.lane c earlier (ends_hand x.event c ranks earlier x.lane (part x.lane earlier) at.0.counting e) in
+    (k.0, k.1, begins_trans (k.0 ∷ k.1) earlier log k.2 (begins_tail x earlier log to), k.3)
 
 -- where nothing waits, each need of each task was given once, before it was taken
 pub all_given : (ranks workers : ℕ) (log : List Mark) → Legal ranks workers log → ((c : Item) → Holds (waiting log) c → ⊥) → AllNeedsGivenOnce log
@@ -190,16 +211,6 @@ all_given ranks workers log h none r n t s f i =
     let made = made_here (Task r n) s.0 _ log (ap (λ (q : ℕ). Some (Task q n)) s.1) s.2 in
     let once = ended_once (Task r n) ranks workers log h (none (Task r n)) made in
     let e = ended_at (Task r n) log (omega (arith, once)) in
-    let at_end = legal_begins ranks workers (e.0 ∷ e.1) log e.2 h in
-    let hand = ends_hand e.0.event (Task r n) ranks e.1 e.0.lane (part e.0.lane e.1) at_end.0.counting e.3 in
-    let k = taken_at e.0.lane (Task r n) e.1 hand in
-    let took_in : Begins (k.0 ∷ k.1) log = begins_trans (k.0 ∷ k.1) e.1 log k.2 (begins_trans e.1 (e.0 ∷ e.1) log (e.0 ∷ [], refl) e.2) in
-    let at_took = legal_begins ranks workers (k.0 ∷ k.1) log took_in h in
-    let before : Begins k.1 log = begins_trans k.1 (k.0 ∷ k.1) log (k.0 ∷ [], refl) took_in in
-    let was_made = (took_fresh (Task r n) k.0.event ranks k.1 k.0.lane (part k.0.lane k.1) at_took.0.counting k.3).0 in
-    let needs : needs_of (Task r n) log ≡ needs_of (Task r n) k.1 = ap (needs_of (Task r n)) before.1 ∙ needs_stay ranks workers before.0 k.1 (subst (Legal ranks workers) before.1 h) (Task r n) was_made in
-    let given = task_took r n k.1 k.0.lane (part k.0.lane k.1) k.0.event at_took.0.dues k.3 f (subst (IsIn f) needs i) in
-    let once_then = given_once ranks workers k.1 at_took.1 f in
-    let now = given_once ranks workers log h f in
-    let grows : times_given f k.1 ≤ times_given f log = subst (λ (z : List Mark). times_given f k.1 ≤ times_given f z) (sym before.1) (given_grows f before.0 k.1) in
-    (omega (arith, given, now, grows), (k.0, k.1, took_in, k.3, omega (arith, given, once_then)))
+    let k = ran_taken ranks workers log h (Task r n) e.0 e.1 e.2 e.3 in
+    let g = taken_given ranks workers log h r n k.0 k.1 k.2 k.3 f i in
+    (g.0, (k.0, k.1, k.2, k.3, g.1))

@@ -9,3 +9,4 @@ pub mod Owners
 pub mod Given
 pub mod Receipts
 pub mod Books
+pub mod Kept

@@ -184,10 +184,10 @@ made_below ranks workers (x ∷ log) h c m = go (made_below ranks workers log h.
 pub new_item : (ranks workers : ℕ) (log : List Mark) (x : Mark) → Legal ranks workers (x ∷ log) → (c : Item) → makes x.lane.rank x.event ≡ Some c → times_made c log ≡ 0
 new_item ranks workers log x h c m =
     ⊎_elim (λ (some : 1 ≤ times_made c log).
-        let i = makes_number c x.lane.rank x.event m in
-        let is = numbered (kind_of c) (number_of c) ranks log x.lane (part x.lane log) x.event h.0.counting i.0 in
-        let same : count (kind_of c) x.lane.rank log ≡ count (kind_of c) (rank_of c) log = ap (λ (q : ℕ). count (kind_of c) q log) i.1 in
-        absurd (omega (arith, is, same, made_below ranks workers log h.1 c some)))
+    let i = makes_number c x.lane.rank x.event m in
+    let is = numbered (kind_of c) (number_of c) ranks log x.lane (part x.lane log) x.event h.0.counting i.0 in
+    let same : count (kind_of c) x.lane.rank log ≡ count (kind_of c) (rank_of c) log = ap (λ (q : ℕ). count (kind_of c) q log) i.1 in
+    absurd (omega (arith, is, same, made_below ranks workers log h.1 c some)))
     (λ (none : times_made c log ≡ 0). none)
     (some_or_none (times_made c log))
   where

@@ -31,13 +31,16 @@ module _ (ranks workers q : ℕ) where
   placed_more (r ∷ rs) x log p = (record { at = p.0.at; begins = begins_more p.0.at log x p.0.begins; is = p.0.is; inside = p.0.inside; order = p.0.order }, p.1)
 
   take_reading : (log : List Mark) (x : Mark) (mine : List Event) (k : Kind) (v f p : ℕ) → Reads ranks log (main_of q) mine k v f p → mine ≡ part (main_of q) log → Placed (readings mine) log → Placed (reading k v f p ∷ readings mine) (x ∷ log)
-  take_reading log x mine k v f p a is h = (record {
-    at = log;
-    begins = begins_more log log x (begins_refl log);
-    is = a.0;
-    inside = subst (λ (z : List Event). fence_in z ≡ Some f) is a.1.2;
-    order = a.3;
-  }, h)
+  take_reading log x mine k v f p a is h = (
+    record {
+      at = log;
+      begins = begins_more log log x (begins_refl log);
+      is = a.0;
+      inside = subst (λ (z : List Event). fence_in z ≡ Some f) is a.1.2;
+      order = a.3;
+    },
+    h,
+  )
 
   place : (log : List Mark) (x : Mark) (mine : List Event) (e : Event) → Fences ranks log (main_of q) mine e → mine ≡ part (main_of q) log → Placed (readings mine) log → Placed (readings (e ∷ mine)) (x ∷ log)
   place log x mine (ReadHandled v f p) a is h = take_reading log x mine handlings v f p a is h
@@ -90,16 +93,18 @@ module _ (ranks workers q : ℕ) where
       let last = subst (λ (z : List Reading). Placed ranks workers q z r.at) order.2 down.1.1 in
       let o = last.0 in
       let row : row_after v rs ≡ record { sent = v; handled = order.0; tasks = t } = ap (row_after v) (a.2 ∙ ap (λ (z : List Reading). reading submissions t f p ∷ (reading runs t f p ∷ z)) order.2) in
-      subst (λ (z : Row). HasTimes f p z (x ∷ log)) (sym row)
-      (record { of_handled = o.at; of_ran = r.at; of_submitted = u.at; of_sent = log }, record {
-        order = (o.begins, r.begins, u.begins, begins_more log log x (begins_refl log));
-        handled_is = o.is;
-        ran_is = r.is;
-        submitted_is = u.is;
-        sent_is = is;
-        inside = o.inside;
-        ready = o.order.1;
-      })
+      subst (λ (z : Row). HasTimes f p z (x ∷ log)) (sym row) (
+        record { of_handled = o.at; of_ran = r.at; of_submitted = u.at; of_sent = log },
+        record {
+          order = (o.begins, r.begins, u.begins, begins_more log log x (begins_refl log));
+          handled_is = o.is;
+          ran_is = r.is;
+          submitted_is = u.is;
+          sent_is = is;
+          inside = o.inside;
+          ready = o.order.1;
+        },
+      )
 
   abbrev AllTimes : List Mark → List Event → Type 0
   AllTimes log es = (f p : ℕ) (row : Row) → row_of f p es ≡ Some row → HasTimes f p row log

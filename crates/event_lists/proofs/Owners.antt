@@ -50,6 +50,12 @@ pub is_future_some : (f : Future) (o : Option Future) → is_future f o ≡ true
 is_future_some f None e = absurd (cc)
 is_future_some f (Some g) e = ap Some (sym (same_future_true f g e))
 
+same_future_refl : (f : Future) → same_future f f ≡ true
+same_future_refl f = and_from (same_bringer f.by f.by) (same_label f.label f.label) (same_bringer_refl f.by) (same_label_refl f.label)
+
+pub some_is_future : (f : Future) (o : Option Future) → o ≡ Some f → is_future f o ≡ true
+some_is_future f o e = ap (is_future f) e ∙ same_future_refl f
+
 -- a spawn's new due is its bringer's
 spawn_raised : (r : ℕ) (h : Option Item) (d : Label) (f : Future) → future_by (bringer r h) d ≡ Some f → (is_bringer f.by (bringer r h) ≡ true) × (d ≡ f.label)
 spawn_raised r h d f i = go (bringer r h) i
@@ -116,7 +122,7 @@ pub record Moves (f : Future) (log : List Mark) (x : Mark) : Type 0 where
 pub owned : (f : Future) (log : List Mark) (x : Mark) (m : Moves f log x) → Owns f log m.item
 owned f log x m = record { due = m.due; still = inr (x.lane, m.hand, m.kept) }
 
-part_own : (l : LaneName) (x : Mark) (log : List Mark) → x.lane ≡ l → part l (x ∷ log) ≡ x.event ∷ part x.lane log
+pub part_own : (l : LaneName) (x : Mark) (log : List Mark) → x.lane ≡ l → part l (x ∷ log) ≡ x.event ∷ part x.lane log
 part_own l x log same = subst (λ (m : LaneName). part m (x ∷ log) ≡ x.event ∷ part x.lane log) same (ap (λ (b : Bool). if b then x.event ∷ part x.lane log else part x.lane log) (same_lane_refl x.lane))
 
 -- whose hand it was taken from doesn't own it any more
@@ -124,10 +130,10 @@ pub lost_now : (ranks workers : ℕ) (f : Future) (log : List Mark) (x : Mark) �
 lost_now ranks workers f log x h m o = ⊎_elim
     (λ free. both_ways (is_taken m.item log) (untaken m.item x log free) (hand_taken x.lane log m.item m.hand))
     (λ held. ⊎_elim
-        (λ a. let t = a.1 in let n = m.quiet in absurd (cc))
-        (λ a. let same = one_hand ranks workers log h x.lane held.0 m.item m.hand a.0 in
-            m.lost (subst (Keeps m.item f.label) (part_own held.0 x log same) held.2))
-        (hand_before held.0 x log m.item held.1))
+    (λ a. let t = a.1 in let n = m.quiet in absurd (cc))
+    (λ a. let same = one_hand ranks workers log h x.lane held.0 m.item m.hand a.0 in
+    m.lost (subst (Keeps m.item f.label) (part_own held.0 x log same) held.2))
+    (hand_before held.0 x log m.item held.1))
     o.still
 
 keeps_back : (c : Item) (d : Label) (ranks : ℕ) (log : List Mark) (l : LaneName) (e : Event) (mine : List Event) → Counting ranks log l mine e → in_hand mine ≡ Some c → Keeps c d (e ∷ mine) → Keeps c d mine
@@ -149,9 +155,9 @@ owns_back ranks workers f log x h c o = go (is_item c (makes x.lane.rank x.event
     still = ⊎_elim
         (λ free. inl (untaken c x log free))
         (λ held. ⊎_elim
-            (λ a. inl (took_fresh c x.event ranks log x.lane (part x.lane log) h.0.counting a.1).1)
-            (λ a. inr (held.0, a.0, lane held.0 a.0 (same_lane x.lane held.0) refl held.2))
-            (hand_before held.0 x log c held.1))
+        (λ a. inl (took_fresh c x.event ranks log x.lane (part x.lane log) h.0.counting a.1).1)
+        (λ a. inr (held.0, a.0, lane held.0 a.0 (same_lane x.lane held.0) refl held.2))
+        (hand_before held.0 x log c held.1))
         o.still
       where
         lane : (l : LaneName) → in_hand (part l log) ≡ Some c → (b : Bool) → same_lane x.lane l ≡ b → Keeps c f.label (if b then x.event ∷ part l log else part l log) → Keeps c f.label (part l log)

@@ -1,16 +1,12 @@
 //! The events of a run.
-use app_core::{CellName, Label, Needs};
-
 use crate::receipt::Receipt;
+use app_core::{CellName, Label, Needs};
 
 /// What a message carries.
 #[derive(Clone, Copy, Debug, PartialEq, Eq)]
 pub enum Parcel {
     /// A unit that is to be submitted at the rank that the message goes to, with its due.
-    Unit {
-        unit: Label,
-        due: Option<Label>,
-    },
+    Unit { unit: Label, due: Option<Label> },
 
     /// A value for this future, which is kept at the rank that the message goes to.
     Give(Label),

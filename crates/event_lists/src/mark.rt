@@ -6,23 +6,13 @@ use crate::lane::LaneName;
 #[derive(Clone, Copy, Debug, PartialEq, Eq)]
 pub enum Item {
     /// Message `number` that rank `rank` sent.
-    Message {
-        rank: u32,
-        number: u64,
-    },
+    Message { rank: u32, number: u64 },
 
     /// Task `number` that was submitted at rank `rank`.
-    Task {
-        rank: u32,
-        number: u64,
-    },
+    Task { rank: u32, number: u64 },
 
     /// The effect at place `place` of task `number` of rank `rank`.
-    Effect {
-        rank: u32,
-        number: u64,
-        place: u64,
-    },
+    Effect { rank: u32, number: u64, place: u64 },
 }
 
 /// The effect that an event carried out: the one at a place of a task.
