@@ -1,17 +1,12 @@
 -- The lists of small runs, one event after another.
-use Rattle.std.proofs.Common.{◌≡◌, ◌≢◌, ◌⊎◌, ℕ, zero, suc, ◌+◌, ◌<◌, ◌≤◌, Bool, true, false, List, [], ◌∷◌, refl, sym, ap, ◌∙◌, subst, inl, inr, arith}
-use Rattle.std.specs.Prelude.{Option, Some, None, slice_get}
-use Rattle.app_core.specs.declared.label.Label.{Label}
-use Rattle.event_lists.specs.declared.lane.LaneName.{LaneName}
-use Rattle.event_lists.specs.declared.event.Event.{Event}
-use Rattle.event_lists.specs.declared.event.Event.TheVariants.{ReadHandled, ReadRan, ReadSubmitted, ReadSent, Enter, Leave, Receipt as Receives}
+use Rattle.std.proofs.Common.{◌≡◌, ℕ, suc, ◌<◌, List, [], ◌∷◌, refl, ap, subst, inl, arith}
+use Rattle.std.specs.Prelude.{Some, slice_get}
+use Rattle.event_lists.specs.declared.event.Event.TheVariants.{ReadHandled, ReadRan, ReadSubmitted, Enter, Receipt as Receives}
 use Rattle.event_lists.specs.declared.receipt.Row.{Row}
-use Rattle.event_lists.specs.declared.receipt.Receipt.{Receipt}
 use Rattle.event_lists.specs.declared.mark.Mark.{Mark}
 use Rattle.event_lists.specs.Events.{part, main_of, Kind, sends, handlings, submissions, runs}
-use Rattle.event_lists.specs.Fences.{Fences, Reading, reading, row_of, IsComplete, IsReady, InOrder}
-use Rattle.event_lists.specs.Legal.{Legal, May}
-use Rattle.event_lists.specs.Dues.{Dues}
+use Rattle.event_lists.specs.Fences.{Reading, reading, row_of, IsComplete, IsReady}
+use Rattle.event_lists.specs.Legal.{Legal}
 use Rattle.event_lists.specs.Books.{by_main, empty_receipt, one_pass, two_passes, first_book, second_book, one_reading, third_book, IsIllegal}
 
 -- where there is one rank, what holds of it holds of each

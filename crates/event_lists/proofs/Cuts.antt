@@ -1,24 +1,22 @@
 -- A receipt's passes, and the cut that its rows name.
-use Rattle.std.proofs.Common.{◌≡◌, ◌≢◌, ◌⊎◌, ℕ, zero, suc, ◌+◌, ◌<◌, ◌≤◌, Bool, true, false, List, [], ◌∷◌, ◌++◌, refl, sym, ap, ◌∙◌, subst, inl, inr, ⊎_elim, arith}
-use Rattle.std.specs.Prelude.{Option, Some, None, slice_get}
+use Rattle.std.proofs.Common.{◌≡◌, ℕ, suc, ◌+◌, ◌<◌, ◌≤◌, Bool, true, false, List, [], ◌∷◌, ◌++◌, refl, sym, ap, ◌∙◌, subst, inl, inr, ⊎_elim, arith}
+use Rattle.std.specs.Prelude.{Some, slice_get}
 use Rattle.event_lists.specs.declared.lane.LaneName.{LaneName}
 use Rattle.event_lists.specs.declared.event.Event.{Event}
-use Rattle.event_lists.specs.declared.event.Event.TheVariants.{Sent, TookMessage, TookTask, Handled, Submitted, Ran, Receipt as Receives}
+use Rattle.event_lists.specs.declared.event.Event.TheVariants.{Sent, TookMessage, Handled, Ran, Receipt as Receives}
 use Rattle.event_lists.specs.declared.event.Parcel.{Parcel}
-use Rattle.event_lists.specs.declared.event.TaskName.{TaskName}
-use Rattle.event_lists.specs.declared.receipt.Row.{Row}
 use Rattle.event_lists.specs.declared.receipt.Receipt.{Receipt}
 use Rattle.event_lists.specs.declared.mark.Item.{Item}
-use Rattle.event_lists.specs.declared.mark.Item.TheVariants.{Message, Task, Effect}
+use Rattle.event_lists.specs.declared.mark.Item.TheVariants.{Message, Task}
 use Rattle.event_lists.specs.declared.mark.Mark.{Mark}
-use Rattle.event_lists.specs.Events.{part, main_of, Begins, Stands, StandsOn, in_hand, Kind, sends, number, count, is_item, makes, takes, ends, times_made, times_ended, IsSent, IsSubmitted}
+use Rattle.event_lists.specs.Events.{part, main_of, Begins, Stands, StandsOn, in_hand, sends, is_item, takes, ends, times_ended, IsSent}
 use Rattle.event_lists.specs.Counting.{Counting}
-use Rattle.event_lists.specs.Fences.{Fences, row_of, IsComplete, Receivable}
+use Rattle.event_lists.specs.Fences.{Fences, row_of, IsComplete}
 use Rattle.event_lists.specs.Quiet.{named, IsCut, AllHandledOnce, AllRanOnce}
 use Rattle.event_lists.specs.Legal.{Legal, May}
 use Rattle.event_lists.proofs.Lists.{one_if, legal_begins, begins_refl, begins_more, begins_trans, stands_below, stood_below, is_item_some, made_here, same_event}
 use Rattle.event_lists.proofs.Waiting.{Holds, waiting, hand_before, ends_hand, ended_once}
-use Rattle.event_lists.proofs.Agreed.{Agreed, settled_end, rows_are_counts}
+use Rattle.event_lists.proofs.Agreed.{Agreed, rows_are_counts}
 
 -- what a receipt asks of the list before it
 pub received : (ranks workers : ℕ) (before : List Mark) (x : Mark) (r : Receipt) → May ranks workers before x → x.event ≡ Receives r → Fences ranks before x.lane (part x.lane before) (Receives r)

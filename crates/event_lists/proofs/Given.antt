@@ -1,27 +1,27 @@
 -- A future is given at most once, and the needs of a task before it was taken.
-use Rattle.std.proofs.Common.{◌≡◌, ◌≢◌, ◌⊎◌, ℕ, zero, suc, ◌+◌, ◌<◌, ◌≤◌, Bool, true, false, not, ◌&&◌, ◌||◌, List, [], ◌∷◌, ◌++◌, refl, sym, ap, ◌∙◌, subst, inl, inr, ⊎_elim, arith}
-use Rattle.std.specs.Prelude.{if◌then◌else◌, ◌==◌, Option, Some, None}
+use Rattle.std.proofs.Common.{◌≡◌, ◌⊎◌, ℕ, zero, suc, ◌+◌, ◌≤◌, Bool, true, false, List, [], ◌∷◌, ◌++◌, refl, sym, ap, ◌∙◌, subst, inl, inr, ⊎_elim, arith}
+use Rattle.std.specs.Prelude.{if◌then◌else◌, Option, Some, None}
 use Rattle.std.proofs.lemmas.Bool.{both_ways, or_right}
 use Rattle.app_core.specs.declared.label.Label.{Label}
-use Rattle.app_core.specs.Outlines.{same_label, is_due}
+use Rattle.app_core.specs.Outlines.{is_due}
 use Rattle.event_lists.specs.declared.lane.LaneName.{LaneName}
 use Rattle.event_lists.specs.declared.event.Event.{Event}
-use Rattle.event_lists.specs.declared.event.Event.TheVariants.{Sent, TookMessage, TookTask, Submitted, Gave}
+use Rattle.event_lists.specs.declared.event.Event.TheVariants.{Sent, TookTask, Submitted, Gave}
 use Rattle.event_lists.specs.declared.event.Parcel.TheVariants.{Unit as Spawned, Give}
 use Rattle.event_lists.specs.declared.event.TaskName.{TaskName}
 use Rattle.event_lists.specs.declared.mark.Item.{Item}
 use Rattle.event_lists.specs.declared.mark.Item.TheVariants.{Message, Task, Effect}
 use Rattle.event_lists.specs.declared.mark.Mark.{Mark}
-use Rattle.event_lists.specs.Events.{Begins, part, in_hand, is_item, makes, takes, ends, times_made, times_ended, IsSubmitted}
-use Rattle.event_lists.specs.Futures.{Future, is_future, bringer, futures_by, spawned_due, spawned_needs, is_own, due_of_spawn, due_made, due_of, own_due, needs_of, was_due, passes_on, is_fresh, gives, times_given, IsIn}
+use Rattle.event_lists.specs.Events.{Begins, part, in_hand, is_item, makes, takes, ends, times_made}
+use Rattle.event_lists.specs.Futures.{Future, is_future, bringer, futures_by, spawned_needs, is_own, due_of_spawn, due_made, own_due, needs_of, was_due, passes_on, is_fresh, gives, times_given, IsIn}
 use Rattle.event_lists.specs.Counting.{Counting, MaySpawn, MaySubmit}
 use Rattle.event_lists.specs.Dues.{Dues, DueIsFree, KeepsDue, Carries, SubmitsFreely}
-use Rattle.event_lists.specs.Quiet.{AllNeedsGivenOnce, GivenBefore}
-use Rattle.event_lists.specs.Legal.{Legal, May}
-use Rattle.event_lists.proofs.Lists.{one_if, bit, legal_begins, begins_trans, begins_tail, is_item_some, made_here, new_item}
+use Rattle.event_lists.specs.Quiet.{AllNeedsGivenOnce}
+use Rattle.event_lists.specs.Legal.{Legal}
+use Rattle.event_lists.proofs.Lists.{one_if, legal_begins, begins_trans, begins_tail, is_item_some, made_here, new_item}
 use Rattle.event_lists.proofs.Waiting.{Holds, waiting, ends_hand, ended_once, took_fresh}
 use Rattle.event_lists.proofs.Cuts.{ended_at, taken_at}
-use Rattle.event_lists.proofs.Owners.{same_label_refl, is_future_some, due_raised, Owns, Moves, owned, lost_now, owns_back, task_moves, message_moves, spawns, own_label}
+use Rattle.event_lists.proofs.Owners.{same_label_refl, is_future_some, due_raised, Owns, Moves, owned, lost_now, owns_back, task_moves, message_moves, spawns}
 
 -- what a legal event asks, at what is in hand
 abbrev own : List Mark → Mark → Option Future

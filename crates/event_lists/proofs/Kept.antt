@@ -1,6 +1,6 @@
 -- A due is kept until it is given: it has an owner, or was given.
-use Rattle.std.proofs.Common.{◌≡◌, ◌⊎◌, ℕ, zero, suc, ◌+◌, ◌<◌, ◌≤◌, Bool, true, false, not, ◌&&◌, ◌||◌, List, [], ◌∷◌, ◌++◌, refl, sym, ap, ◌∙◌, subst, inl, inr, ⊎_elim, arith}
-use Rattle.std.specs.Prelude.{if◌then◌else◌, ◌==◌, Option, Some, None}
+use Rattle.std.proofs.Common.{◌≡◌, ◌⊎◌, ℕ, ◌+◌, ◌≤◌, Bool, true, false, not, List, [], ◌∷◌, refl, sym, ap, ◌∙◌, subst, inl, inr, ⊎_elim, arith}
+use Rattle.std.specs.Prelude.{if◌then◌else◌, Option, Some, None}
 use Rattle.std.proofs.lemmas.Bool.{and_from, cases_Bool, both_ways, or_cases, or_from, false_from_ne_true}
 use Rattle.app_core.specs.declared.label.Label.{Label}
 use Rattle.app_core.specs.Outlines.{same_label, is_due}
@@ -8,15 +8,14 @@ use Rattle.event_lists.specs.declared.lane.LaneName.{LaneName}
 use Rattle.event_lists.specs.declared.event.Event.{Event}
 use Rattle.event_lists.specs.declared.event.Event.TheVariants.{Sent, TookMessage, TookTask, Handled, Submitted, Ran, Gave}
 use Rattle.event_lists.specs.declared.event.Parcel.TheVariants.{Unit as Spawned, Give}
-use Rattle.event_lists.specs.declared.event.TaskName.{TaskName}
 use Rattle.event_lists.specs.declared.mark.Item.{Item}
 use Rattle.event_lists.specs.declared.mark.Item.TheVariants.{Message, Task, Effect}
 use Rattle.event_lists.specs.declared.mark.Mark.{Mark}
-use Rattle.event_lists.specs.Events.{part, same_lane, in_hand, hand_after, is_item, makes, takes, ends, times_made, is_taken}
+use Rattle.event_lists.specs.Events.{part, same_lane, in_hand, hand_after, is_item, makes, takes, times_made, is_taken}
 use Rattle.event_lists.specs.Futures.{Future, is_future, is_own, due_of_spawn, due_made, due_of, own_due, is_kept, is_fresh, gives, times_given}
 use Rattle.event_lists.specs.Counting.{Counting, MaySpawn}
 use Rattle.event_lists.specs.Dues.{Dues, HasPassedOn}
-use Rattle.event_lists.specs.Legal.{Legal, May}
+use Rattle.event_lists.specs.Legal.{Legal}
 use Rattle.event_lists.proofs.Lists.{one_if, same_lane_true, is_item_some, some_is_item, new_item}
 use Rattle.event_lists.proofs.Waiting.{Holds, waiting, took_fresh, made_waits, hand_waits}
 use Rattle.event_lists.proofs.Owners.{Keeps, Owns, part_own, same_label_true, same_label_refl, some_is_future}
@@ -179,8 +178,8 @@ lasts ranks workers f (x ∷ log) h c i = go (λ j. lasts ranks workers f log h.
 pub due_given : (ranks workers : ℕ) (log : List Mark) → Legal ranks workers log → ((c : Item) → Holds (waiting log) c → ⊥) → (c : Item) (f : Future) → due_of c log ≡ Some f → times_given f log ≡ 1
 due_given ranks workers log h none c f i = ⊎_elim
     (λ o. ⊎_elim
-        (λ free. absurd (none o.0 (made_waits ranks workers log h o.0 (due_was_made o.0 f log o.1.due) free)))
-        (λ held. absurd (none o.0 (hand_waits ranks workers log h held.0 o.0 held.1)))
-        o.1.still)
+    (λ free. absurd (none o.0 (made_waits ranks workers log h o.0 (due_was_made o.0 f log o.1.due) free)))
+    (λ held. absurd (none o.0 (hand_waits ranks workers log h held.0 o.0 held.1)))
+    o.1.still)
     (λ given. omega (arith, given, given_once ranks workers log h f))
     (lasts ranks workers f log h c i)

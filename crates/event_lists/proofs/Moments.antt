@@ -1,6 +1,6 @@
 -- From the readings in the mains' own parts to the moments at which they were taken.
-use Rattle.std.proofs.Common.{◌≡◌, ◌≢◌, ◌⊎◌, ℕ, zero, suc, ◌+◌, ◌<◌, ◌≤◌, Bool, true, false, List, [], ◌∷◌, ◌++◌, length, refl, sym, ap, ◌∙◌, subst, inl, inr, ⊎_elim, arith}
-use Rattle.std.specs.Prelude.{if◌then◌else◌, ◌==◌, ◌&&◌, ◌||◌, Option, Some, None}
+use Rattle.std.proofs.Common.{◌≡◌, ◌⊎◌, ℕ, ◌+◌, ◌<◌, ◌≤◌, Bool, true, false, List, [], ◌∷◌, ◌++◌, refl, sym, ap, ◌∙◌, subst, inl, inr, ⊎_elim, arith}
+use Rattle.std.specs.Prelude.{if◌then◌else◌, ◌==◌, ◌&&◌, Some}
 use Rattle.std.proofs.lemmas.Bool.{and_parts, eqb-true, both_ways, or_parts}
 use Rattle.event_lists.specs.declared.lane.LaneName.{LaneName}
 use Rattle.event_lists.specs.declared.event.Event.{Event}
@@ -9,8 +9,8 @@ use Rattle.event_lists.specs.declared.receipt.Row.{Row}
 use Rattle.event_lists.specs.declared.mark.Mark.{Mark}
 use Rattle.event_lists.specs.Events.{part, same_lane, main_of, Begins, Kind, sends, handlings, submissions, runs, count}
 use Rattle.event_lists.specs.Fences.{Fences, Reading, reading, readings, passes, row_after, row_of, IsReady, InOrder, Reads, fence_in, enters, is_receipt, has_receipt}
-use Rattle.event_lists.specs.Legal.{Legal, May}
-use Rattle.event_lists.proofs.Lists.{same_lane_true, begins_refl, begins_more, begins_trans}
+use Rattle.event_lists.specs.Legal.{Legal}
+use Rattle.event_lists.proofs.Lists.{same_lane_true, begins_refl, begins_more}
 
 module _ (ranks workers q : ℕ) where
   -- a reading that stands in the list was taken at one of its beginnings, in order

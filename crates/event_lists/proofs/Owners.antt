@@ -1,24 +1,22 @@
 -- Who owns a future: at any moment at most one message or task that is yet to give it or pass it on.
-use Rattle.std.proofs.Common.{◌≡◌, ◌≢◌, ◌⊎◌, ℕ, zero, suc, ◌+◌, ◌<◌, ◌≤◌, Bool, true, false, not, ◌&&◌, ◌||◌, List, [], ◌∷◌, ◌++◌, refl, sym, ap, ◌∙◌, subst, inl, inr, ⊎_elim, arith}
+use Rattle.std.proofs.Common.{◌≡◌, ◌⊎◌, ℕ, Bool, true, false, not, ◌&&◌, ◌||◌, List, [], ◌∷◌, refl, sym, ap, ◌∙◌, subst, inl, inr, ⊎_elim}
 use Rattle.std.specs.Prelude.{if◌then◌else◌, ◌==◌, Option, Some, None}
 use Rattle.std.proofs.lemmas.Bool.{and_parts, and_from, eqb-true, eq-eqb, both_ways, or_left, or_right}
 use Rattle.app_core.specs.declared.label.Label.{Label}
 use Rattle.app_core.specs.Outlines.{same_label, is_due}
 use Rattle.event_lists.specs.declared.lane.LaneName.{LaneName}
 use Rattle.event_lists.specs.declared.event.Event.{Event}
-use Rattle.event_lists.specs.declared.event.Event.TheVariants.{Sent, TookMessage, TookTask, Handled, Submitted, Ran, Gave}
-use Rattle.event_lists.specs.declared.event.Parcel.{Parcel}
+use Rattle.event_lists.specs.declared.event.Event.TheVariants.{Sent, TookMessage, TookTask, Submitted, Gave}
 use Rattle.event_lists.specs.declared.event.Parcel.TheVariants.{Unit as Spawned, Give}
-use Rattle.event_lists.specs.declared.event.TaskName.{TaskName}
 use Rattle.event_lists.specs.declared.mark.Item.{Item}
 use Rattle.event_lists.specs.declared.mark.Item.TheVariants.{Message, Task, Effect}
 use Rattle.event_lists.specs.declared.mark.Mark.{Mark}
 use Rattle.event_lists.specs.Events.{part, same_lane, in_hand, is_item, makes, takes, is_taken}
-use Rattle.event_lists.specs.Futures.{Bringer, task_of, main_at, Future, same_bringer, same_future, is_future, bringer, future_by, is_bringer, spawned_due, is_own, due_of_spawn, due_made, of_item, due_of, own_due, was_due, passes_on, is_kept, is_fresh, gives, times_given}
+use Rattle.event_lists.specs.Futures.{Bringer, task_of, main_at, Future, same_bringer, same_future, is_future, bringer, future_by, is_bringer, spawned_due, is_own, due_of_spawn, due_made, due_of, own_due, was_due, passes_on, is_kept, is_fresh}
 use Rattle.event_lists.specs.Counting.{Counting, MaySpawn}
-use Rattle.event_lists.specs.Dues.{Dues, DueIsFree, WasNoDue, KeepsDue, Carries, SubmitsFreely}
-use Rattle.event_lists.specs.Legal.{Legal, May}
-use Rattle.event_lists.proofs.Lists.{one_if, same_lane_true, same_lane_refl, is_item_some}
+use Rattle.event_lists.specs.Dues.{DueIsFree}
+use Rattle.event_lists.specs.Legal.{Legal}
+use Rattle.event_lists.proofs.Lists.{same_lane_true, same_lane_refl, is_item_some}
 use Rattle.event_lists.proofs.Waiting.{hand_before, hand_taken, untaken, took_fresh, one_hand}
 
 -- labels and futures

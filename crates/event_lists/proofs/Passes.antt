@@ -1,7 +1,7 @@
 -- Two passes that agree, given the moments of their readings: at a moment between them nothing is left undone, and
 -- after it no count changes.
-use Rattle.std.proofs.Common.{◌≡◌, ◌≢◌, ◌⊎◌, ℕ, zero, suc, ◌+◌, ◌<◌, ◌≤◌, Bool, true, false, List, [], ◌∷◌, ◌++◌, refl, sym, ap, ◌∙◌, subst, inl, inr, ⊎_elim, arith}
-use Rattle.std.specs.Prelude.{if◌then◌else◌, ◌==◌, ◌&&◌, ◌||◌, Option, Some, None}
+use Rattle.std.proofs.Common.{◌≡◌, ◌⊎◌, ℕ, suc, ◌+◌, ◌<◌, ◌≤◌, Bool, true, false, List, [], ◌∷◌, ◌++◌, refl, sym, ap, ◌∙◌, subst, inl, inr, ⊎_elim, arith}
+use Rattle.std.specs.Prelude.{if◌then◌else◌, ◌==◌, ◌&&◌, Option, Some, None}
 use Rattle.std.proofs.lemmas.Bool.{and_from, eq-eqb, eqb-true}
 use Rattle.event_lists.specs.declared.lane.LaneName.{LaneName}
 use Rattle.event_lists.specs.declared.event.Event.{Event}
@@ -9,10 +9,10 @@ use Rattle.event_lists.specs.declared.event.Event.TheVariants.{Sent, TookMessage
 use Rattle.event_lists.specs.declared.mark.Item.{Item}
 use Rattle.event_lists.specs.declared.mark.Item.TheVariants.{Message, Task, Effect}
 use Rattle.event_lists.specs.declared.mark.Mark.{Mark}
-use Rattle.event_lists.specs.Events.{part, same_lane, Begins, in_hand, hand_after, Kind, sends, handlings, submissions, runs, is_kind, counts, count, makes, ends}
+use Rattle.event_lists.specs.Events.{part, same_lane, Begins, in_hand, Kind, sends, handlings, submissions, runs, is_kind, counts, count, makes, ends}
 use Rattle.event_lists.specs.Counting.{Counting}
 use Rattle.event_lists.specs.Fences.{sum_ranks}
-use Rattle.event_lists.specs.Legal.{Legal, May}
+use Rattle.event_lists.specs.Legal.{Legal}
 use Rattle.event_lists.proofs.Lists.{one_if, same_lane_true, legal_begins, begins_refl, begins_trans, begins_tail, count_grows, count_begins}
 use Rattle.event_lists.proofs.Waiting.{Holds, waiting, hand_waits, ends_hand, new_or_old, made_now, weighed, no_weight}
 use Rattle.event_lists.proofs.Sums.{squeezed, same_sum, totals, message_weight, task_weight, made_messages, ended_messages, made_tasks, ended_tasks, hand_rank, makes_task, waiting_rank, no_effect, off}

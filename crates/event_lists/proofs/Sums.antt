@@ -1,17 +1,17 @@
 -- Sums over ranks, and the counts of all ranks.
-use Rattle.std.proofs.Common.{◌≡◌, ◌≢◌, ◌⊎◌, ℕ, zero, suc, ◌+◌, ◌<◌, ◌≤◌, Bool, true, false, List, [], ◌∷◌, ◌++◌, refl, sym, ap, ◌∙◌, subst, inl, inr, ⊎_elim, arith}
-use Rattle.std.specs.Prelude.{if◌then◌else◌, ◌==◌, ◌&&◌, ◌||◌, Option, Some, None}
-use Rattle.std.proofs.lemmas.Bool.{and_parts, eqb-true, eq-eqb, ne_eqb, cases_eq}
+use Rattle.std.proofs.Common.{◌≡◌, ◌≢◌, ℕ, zero, suc, ◌+◌, ◌<◌, ◌≤◌, Bool, true, false, List, [], ◌∷◌, refl, sym, ap, ◌∙◌, subst, ⊎_elim, arith}
+use Rattle.std.specs.Prelude.{◌==◌, ◌&&◌, Some}
+use Rattle.std.proofs.lemmas.Bool.{eq-eqb, ne_eqb, cases_eq}
 use Rattle.event_lists.specs.declared.lane.LaneName.{LaneName}
 use Rattle.event_lists.specs.declared.event.Event.{Event}
-use Rattle.event_lists.specs.declared.event.Event.TheVariants.{Sent, TookMessage, TookTask, Handled, Submitted, Ran}
+use Rattle.event_lists.specs.declared.event.Event.TheVariants.{Sent, TookTask, Handled, Submitted, Ran}
 use Rattle.event_lists.specs.declared.mark.Item.{Item}
 use Rattle.event_lists.specs.declared.mark.Item.TheVariants.{Message, Task, Effect}
 use Rattle.event_lists.specs.declared.mark.Mark.{Mark}
 use Rattle.event_lists.specs.Events.{part, in_hand, Kind, sends, handlings, submissions, runs, is_kind, counts, count, makes, takes, ends}
 use Rattle.event_lists.specs.Counting.{Counting}
 use Rattle.event_lists.specs.Fences.{sum_ranks}
-use Rattle.event_lists.specs.Legal.{Legal, May}
+use Rattle.event_lists.specs.Legal.{Legal}
 use Rattle.event_lists.proofs.Lists.{one_if}
 use Rattle.event_lists.proofs.Waiting.{hand_before, waiting, Holds, new_or_old, weight_of, made_by, ended_by}
 

@@ -1,17 +1,17 @@
 -- Counting: what was made is what ended and what waits, and what a lane has in hand waits.
-use Rattle.std.proofs.Common.{◌≡◌, ◌≢◌, ◌⊎◌, ℕ, zero, suc, ◌+◌, ◌<◌, ◌≤◌, Bool, true, false, List, [], ◌∷◌, ◌++◌, length, refl, sym, ap, ◌∙◌, subst, inl, inr, ⊎_elim, arith}
-use Rattle.std.specs.Prelude.{if◌then◌else◌, ◌==◌, ◌&&◌, ◌||◌, Option, Some, None}
-use Rattle.std.proofs.lemmas.Bool.{cases_Bool, both_ways, or_parts, or_right, or_left}
+use Rattle.std.proofs.Common.{◌≡◌, ◌≢◌, ◌⊎◌, ℕ, ◌+◌, ◌≤◌, Bool, true, false, List, [], ◌∷◌, refl, sym, ap, ◌∙◌, subst, inl, inr, ⊎_elim, arith}
+use Rattle.std.specs.Prelude.{if◌then◌else◌, Option, Some, None}
+use Rattle.std.proofs.lemmas.Bool.{both_ways, or_parts, or_right, or_left}
 use Rattle.event_lists.specs.declared.lane.LaneName.{LaneName}
 use Rattle.event_lists.specs.declared.event.Event.{Event}
-use Rattle.event_lists.specs.declared.event.Event.TheVariants.{Sent, TookMessage, TookTask, Handled, Submitted, Ran}
+use Rattle.event_lists.specs.declared.event.Event.TheVariants.{TookMessage, TookTask, Handled, Ran}
 use Rattle.event_lists.specs.declared.mark.Item.{Item}
-use Rattle.event_lists.specs.declared.mark.Item.TheVariants.{Message, Task, Effect}
+use Rattle.event_lists.specs.declared.mark.Item.TheVariants.{Message, Task}
 use Rattle.event_lists.specs.declared.mark.Mark.{Mark}
-use Rattle.event_lists.specs.Events.{part, same_lane, StandsOn, Kind, is_kind, count, same_item, is_item, makes, takes, ends, times_made, times_ended, is_taken, in_hand, hand_after}
+use Rattle.event_lists.specs.Events.{part, same_lane, same_item, is_item, makes, takes, ends, times_made, times_ended, is_taken, in_hand, hand_after}
 use Rattle.event_lists.specs.Counting.{Counting}
-use Rattle.event_lists.specs.Legal.{Legal, May}
-use Rattle.event_lists.proofs.Lists.{same_lane_true, same_lane_refl, one_if, same_item_true, same_item_refl, is_item_some, some_is_item, made_here, new_item, made_once}
+use Rattle.event_lists.specs.Legal.{Legal}
+use Rattle.event_lists.proofs.Lists.{same_lane_true, same_lane_refl, one_if, same_item_true, same_item_refl, is_item_some, some_is_item, made_here, made_once}
 
 abbrev pub Holds : List Item → Item → Type 0
 Holds [] c = ⊥

@@ -1,5 +1,5 @@
 -- The second part of what an event asks of the list before it: dues, needs, and futures that are given.
-use Rattle.std.specs.Prelude.{◌≡◌, ◌≢◌, ◌⊎◌, ℕ, ◌≤◌, Bool, true, false, List, [], ◌∷◌, Option, Some, None}
+use Rattle.std.specs.Prelude.{◌≡◌, ◌⊎◌, ℕ, ◌≤◌, true, false, List, [], ◌∷◌, Option, Some, None}
 use Rattle.app_core.specs.declared.label.Label.{Label}
 use Rattle.app_core.specs.Needs.{AreDistinct}
 use Rattle.event_lists.specs.declared.lane.LaneName.{LaneName}
@@ -9,7 +9,7 @@ use Rattle.event_lists.specs.declared.event.Parcel.{Parcel}
 use Rattle.event_lists.specs.declared.event.Parcel.TheVariants.{Unit as Spawned, Give}
 use Rattle.event_lists.specs.declared.event.TaskName.{TaskName}
 use Rattle.event_lists.specs.declared.mark.Item.{Item}
-use Rattle.event_lists.specs.declared.mark.Item.TheVariants.{Message, Task, Effect}
+use Rattle.event_lists.specs.declared.mark.Item.TheVariants.{Message, Task}
 use Rattle.event_lists.specs.declared.mark.Mark.{Mark}
 use Rattle.event_lists.specs.Events.{in_hand, IsSent}
 use Rattle.event_lists.specs.Futures.{Bringer, task_of, main_at, Future, bringer, is_own, own_due, needs_of, was_due, was_needed, is_kept, is_fresh, times_given, IsIn}

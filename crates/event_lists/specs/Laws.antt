@@ -1,13 +1,13 @@
 -- What holds of every legal list.
-use Rattle.std.specs.Prelude.{◌≡◌, ℕ, suc, ◌<◌, ◌≤◌, Bool, true, false, List, ◌∷◌, Option, Some, None}
+use Rattle.std.specs.Prelude.{◌≡◌, ℕ, suc, ◌<◌, ◌≤◌, Bool, true, false, List, ◌∷◌, Some}
 use Rattle.event_lists.specs.declared.event.Event.{Event}
-use Rattle.event_lists.specs.declared.event.Event.TheVariants.{Gave, Receipt as Receives}
+use Rattle.event_lists.specs.declared.event.Event.TheVariants.{Sent, TookMessage, TookTask, Handled, Submitted, Ran, Gave, Receipt as Receives}
 use Rattle.event_lists.specs.declared.receipt.Receipt.{Receipt}
 use Rattle.event_lists.specs.declared.mark.Item.{Item}
 use Rattle.event_lists.specs.declared.mark.Item.TheVariants.{Message, Task}
 use Rattle.event_lists.specs.declared.mark.Mark.{Mark}
-use Rattle.event_lists.specs.Events.{Begins, part, main_of, Kind, is_kind, count, takes, times_made, times_ended}
-use Rattle.event_lists.specs.Futures.{Future, times_given}
+use Rattle.event_lists.specs.Events.{Begins, part, main_of, Kind, count, times_made, times_ended}
+use Rattle.event_lists.specs.Futures.{Future, due_of, times_given}
 use Rattle.event_lists.specs.Fences.{row_of, IsComplete}
 use Rattle.event_lists.specs.Quiet.{Quiet}
 use Rattle.event_lists.specs.Legal.{Legal}
@@ -55,6 +55,29 @@ abbrev pub NothingChanges : Type 0
 NothingChanges =
     (ranks workers : ℕ) (before : List Mark) (x : Mark) (r : Receipt) (p : ℕ) → Received ranks workers before x r p
     → (at : List Mark) → Begins at before → IsComplete ranks r.fence p at → (k : Kind) (q : ℕ) → count k q before ≡ count k q at
+
+-- an event sends, takes, handles, submits, runs or gives
+abbrev pub is_work : Event → Bool
+is_work (Sent n to p) = true
+is_work (TookMessage r n) = true
+is_work (TookTask r n) = true
+is_work (Handled n r m) = true
+is_work (Submitted n t) = true
+is_work (Ran n r t) = true
+is_work (Gave f) = true
+is_work _ = false
+
+-- and no event between works
+abbrev pub NothingIsDone : Type 0
+NothingIsDone =
+    (ranks workers : ℕ) (before : List Mark) (x : Mark) (r : Receipt) (p : ℕ) → Received ranks workers before x r p
+    → (at : List Mark) → IsComplete ranks r.fence p at → (y : Mark) (earlier : List Mark) → Begins at earlier → Begins (y ∷ earlier) before → is_work y.event ≡ false
+
+-- each due of a message or task that was sent or submitted before the receipt was given once before it
+abbrev pub DuesAreGiven : Type 0
+DuesAreGiven =
+    (ranks workers : ℕ) (before : List Mark) (x : Mark) (r : Receipt) (p : ℕ) → Received ranks workers before x r p
+    → (c : Item) (f : Future) → due_of c before ≡ Some f → times_given f before ≡ 1
 
 -- each receipt of a legal list is quiet
 abbrev pub ReceiptsAreQuiet : Type 0

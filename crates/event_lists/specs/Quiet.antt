@@ -1,5 +1,5 @@
 -- What a receipt tells: the list before it is quiet.
-use Rattle.std.specs.Prelude.{◌≡◌, ◌↔◌, ℕ, ◌<◌, List, ◌∷◌, Option, Some, slice_get}
+use Rattle.std.specs.Prelude.{◌≡◌, ◌↔◌, ℕ, ◌<◌, List, ◌∷◌, Some, slice_get}
 use Rattle.event_lists.specs.declared.lane.LaneName.{LaneName}
 use Rattle.event_lists.specs.declared.event.Event.TheVariants.{Handled}
 use Rattle.event_lists.specs.declared.event.Parcel.{Parcel}

@@ -1,5 +1,5 @@
 //! Laws about legal lists of events: each function's contract is a law, and its body is empty.
-ghost use Rattle.event_lists.specs.Laws.{BeginningsAreLegal, MessagesAreHandledOnce, TasksRunOnce, FuturesAreGivenOnce, CountsAreFrozen, NothingIsOpen, NothingChanges, ReceiptsAreQuiet};
+ghost use Rattle.event_lists.specs.Laws.{BeginningsAreLegal, MessagesAreHandledOnce, TasksRunOnce, FuturesAreGivenOnce, CountsAreFrozen, NothingIsOpen, NothingChanges, NothingIsDone, DuesAreGiven, ReceiptsAreQuiet};
 ghost use Rattle.event_lists.specs.Legal.{Legal};
 ghost use Rattle.event_lists.specs.Books.{first_book, one_pass, second_book, one_reading, third_book, IsIllegal};
 
@@ -27,9 +27,15 @@ pub fn nothing_is_open_between_the_passes()
     ensures { NothingIsOpen }
 {}
 
-/// From such a moment up to the receipt nothing is sent, handled, submitted or run.
+/// From such a moment up to the receipt no count changes, and nothing is sent, taken, handled, submitted, run or given.
 pub fn nothing_changes_up_to_the_receipt()
-    ensures { NothingChanges }
+    ensures counts { NothingChanges }
+    ensures events { NothingIsDone }
+{}
+
+/// Before a receipt each future that a message or task had as its due was given once.
+pub fn dues_are_given_up_to_the_receipt()
+    ensures { DuesAreGiven }
 {}
 
 /// Each receipt of a legal list is quiet: its rows name the messages, handlings, submissions and runs before it, in
