@@ -10,3 +10,4 @@ pub mod Given
 pub mod Receipts
 pub mod Books
 pub mod Kept
+pub mod Runs

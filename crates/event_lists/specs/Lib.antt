@@ -10,3 +10,4 @@ pub mod Legal
 pub mod Quiet
 pub mod Laws
 pub mod Books
+pub mod Runs

@@ -2,6 +2,7 @@
 ghost use Rattle.event_lists.specs.Laws.{BeginningsAreLegal, MessagesAreHandledOnce, TasksRunOnce, FuturesAreGivenOnce, CountsAreFrozen, NothingIsOpen, NothingChanges, NothingIsDone, DuesAreGiven, ReceiptsAreQuiet};
 ghost use Rattle.event_lists.specs.Legal.{Legal};
 ghost use Rattle.event_lists.specs.Books.{first_book, one_pass, second_book, one_reading, third_book, IsIllegal};
+ghost use Rattle.event_lists.specs.Runs.{whole_run, taken_too_early, handled_too_early, ran_too_early, IsRefused};
 
 /// How a legal list began is legal.
 pub fn beginnings_are_legal()
@@ -54,4 +55,14 @@ pub fn small_runs_are_judged()
     ensures receipt_after_one_pass { IsIllegal second_book }
     ensures one_reading { Legal 1 0 one_reading }
     ensures submitted_before_ran { IsIllegal third_book }
+{}
+
+/// A run of two ranks in which rank 0 sends a unit to rank 1, which runs it and sends its future's value back, and then
+/// runs a task that needed it. It is legal. It isn't where the task is taken before its need was given, the message is
+/// handled before its unit was submitted, or the unit ends without giving its due.
+pub fn a_run_with_tasks_is_judged()
+    ensures whole_run { Legal 2 0 whole_run }
+    ensures taken_before_a_need_is_given { IsRefused taken_too_early }
+    ensures handled_before_the_submission { IsRefused handled_too_early }
+    ensures ran_with_a_due_kept { IsRefused ran_too_early }
 {}
