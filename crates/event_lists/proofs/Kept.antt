@@ -62,10 +62,10 @@ takes_keeps (TookTask r n) c d mine t = subst (λ (z : Item). Keeps z d (TookTas
 takes_keeps e c d mine t = absurd (cc)
 
 -- after an event the item in hand still keeps its due, or the event gives it, or makes an item with it
-pub data Passes (r : ℕ) (c : Item) (f : Future) (mine : List Event) (e : Event) : Type 0 where
-  keeps : in_hand (e ∷ mine) ≡ Some c → Keeps c f.label (e ∷ mine) → Passes r c f mine e
-  given : gives (Some f) e ≡ Some f → Passes r c f mine e
-  moved : (d : Item) → makes r e ≡ Some d → due_made r (Some c) (Some f) e ≡ Some f → Passes r c f mine e
+pub data Outcome (r : ℕ) (c : Item) (f : Future) (mine : List Event) (e : Event) : Type 0 where
+  keeps : in_hand (e ∷ mine) ≡ Some c → Keeps c f.label (e ∷ mine) → Outcome r c f mine e
+  given : gives (Some f) e ≡ Some f → Outcome r c f mine e
+  moved : (d : Item) → makes r e ≡ Some d → due_made r (Some c) (Some f) e ≡ Some f → Outcome r c f mine e
 
 same_due : (f : Future) (r q m : ℕ) (o : Option Label) → is_due f.label o ≡ true → due_of_spawn r (Some (Task q m)) (Some f) o ≡ Some f
 same_due f r q m None i = absurd (cc)
@@ -74,7 +74,7 @@ same_due f r q m (Some d) i =
     let own : is_own d (Some f) ≡ true = ap (λ (z : Label). same_label z f.label) same ∙ same_label_refl f.label in
     ap (λ (b : Bool). if b then Some f else due_of_spawn r (Some (Task q m)) None (Some d)) own
 
-task_passes : (ranks r q m : ℕ) (f : Future) (log : List Mark) (l : LaneName) (mine : List Event) (e : Event) → Counting ranks log l mine e → Dues log l mine e → in_hand mine ≡ Some (Task q m) → due_of (Task q m) log ≡ Some f → is_kept f.label mine ≡ true → Passes r (Task q m) f mine e
+task_passes : (ranks r q m : ℕ) (f : Future) (log : List Mark) (l : LaneName) (mine : List Event) (e : Event) → Counting ranks log l mine e → Dues log l mine e → in_hand mine ≡ Some (Task q m) → due_of (Task q m) log ≡ Some f → is_kept f.label mine ≡ true → Outcome r (Task q m) f mine e
 task_passes ranks r q m f log l mine (Sent n to (Spawned u o)) a d h due k = ⊎_elim
     (λ t. moved (Message r n) refl (same_due f r q m o t))
     (λ t. keeps h (and_from (not (is_due f.label o)) (is_kept f.label mine) (ap not t) k))
@@ -95,7 +95,7 @@ task_passes ranks r q m f log l mine (TookMessage s t) a d h due k = let i = a.0
 task_passes ranks r q m f log l mine (TookTask s t) a d h due k = let i = a.0 in absurd (cc)
 task_passes ranks r q m f log l mine _ a d h due k = keeps h k
 
-message_passes : (ranks r q m : ℕ) (f : Future) (log : List Mark) (l : LaneName) (mine : List Event) (e : Event) → Counting ranks log l mine e → Dues log l mine e → in_hand mine ≡ Some (Message q m) → is_fresh mine ≡ true → Passes r (Message q m) f mine e
+message_passes : (ranks r q m : ℕ) (f : Future) (log : List Mark) (l : LaneName) (mine : List Event) (e : Event) → Counting ranks log l mine e → Dues log l mine e → in_hand mine ≡ Some (Message q m) → is_fresh mine ≡ true → Outcome r (Message q m) f mine e
 message_passes ranks r q m f log l mine (Sent n to p) a d h k = absurd (subst (MaySpawn l) h a.1)
 message_passes ranks r q m f log l mine (Submitted n t) a d h k = moved (Task r n) refl refl
 message_passes ranks r q m f log l mine (Gave g) a d h k = given refl
@@ -105,10 +105,10 @@ message_passes ranks r q m f log l mine (TookMessage s t) a d h k = let i = a.0 
 message_passes ranks r q m f log l mine (TookTask s t) a d h k = let i = a.0 in absurd (cc)
 message_passes ranks r q m f log l mine _ a d h k = keeps h k
 
-passes_on_or_keeps : (ranks r : ℕ) (c : Item) (f : Future) (log : List Mark) (l : LaneName) (mine : List Event) (e : Event) → Counting ranks log l mine e → Dues log l mine e → in_hand mine ≡ Some c → due_of c log ≡ Some f → Keeps c f.label mine → Passes r c f mine e
-passes_on_or_keeps ranks r (Message q m) f log l mine e a d h due k = message_passes ranks r q m f log l mine e a d h k
-passes_on_or_keeps ranks r (Task q m) f log l mine e a d h due k = task_passes ranks r q m f log l mine e a d h due k
-passes_on_or_keeps ranks r (Effect q m i) f log l mine e a d h due k = absurd k
+outcome : (ranks r : ℕ) (c : Item) (f : Future) (log : List Mark) (l : LaneName) (mine : List Event) (e : Event) → Counting ranks log l mine e → Dues log l mine e → in_hand mine ≡ Some c → due_of c log ≡ Some f → Keeps c f.label mine → Outcome r c f mine e
+outcome ranks r (Message q m) f log l mine e a d h due k = message_passes ranks r q m f log l mine e a d h k
+outcome ranks r (Task q m) f log l mine e a d h due k = task_passes ranks r q m f log l mine e a d h due k
+outcome ranks r (Effect q m i) f log l mine e a d h due k = absurd k
 
 -- a future has an owner, or was given
 abbrev Lasts : Future → List Mark → Type 0
@@ -124,12 +124,12 @@ module _ (ranks workers : ℕ) (f : Future) (log : List Mark) (x : Mark) (h : Le
 
   -- the owner has it in the hand of the event's own lane
   held_here : (c : Item) → due_of c log ≡ Some f → in_hand (part x.lane log) ≡ Some c → Keeps c f.label (part x.lane log) → Lasts f (x ∷ log)
-  held_here c due hand k = go (passes_on_or_keeps ranks x.lane.rank c f log x.lane (part x.lane log) x.event h.0.counting h.0.dues hand due k)
+  held_here c due hand k = go (outcome ranks x.lane.rank c f log x.lane (part x.lane log) x.event h.0.counting h.0.dues hand due k)
     where
       own : own_due (in_hand (part x.lane log)) log ≡ Some f
       own = ap (λ (o : Option Item). own_due o log) hand ∙ due
 
-      go : Passes x.lane.rank c f (part x.lane log) x.event → Lasts f (x ∷ log)
+      go : Outcome x.lane.rank c f (part x.lane log) x.event → Lasts f (x ∷ log)
       go (keeps i j) =
           let mine = part_own x.lane x log refl in
           inl (c, record { due = due_stays c due; still = inr (x.lane, subst (λ (es : List Event). in_hand es ≡ Some c) (sym mine) i, subst (Keeps c f.label) (sym mine) j) })

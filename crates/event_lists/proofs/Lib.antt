@@ -11,3 +11,4 @@ pub mod Receipts
 pub mod Books
 pub mod Kept
 pub mod Runs
+pub mod Named

@@ -1,13 +1,17 @@
 -- What holds of every legal list.
-use Rattle.std.specs.Prelude.{◌≡◌, ℕ, suc, ◌<◌, ◌≤◌, Bool, true, false, List, ◌∷◌, Some}
+use Rattle.std.specs.Prelude.{◌≡◌, ℕ, suc, ◌<◌, ◌≤◌, Bool, true, false, List, ◌∷◌, Option, Some, None, map}
+use Rattle.app_core.specs.declared.label.Label.{Label}
+use Rattle.event_lists.specs.declared.lane.LaneName.{LaneName}
 use Rattle.event_lists.specs.declared.event.Event.{Event}
+use Rattle.event_lists.specs.declared.event.Parcel.TheVariants.{Unit as Spawned, Give}
+use Rattle.event_lists.specs.declared.event.TaskName.{TaskName}
 use Rattle.event_lists.specs.declared.event.Event.TheVariants.{Sent, TookMessage, TookTask, Handled, Submitted, Ran, Gave, Receipt as Receives}
 use Rattle.event_lists.specs.declared.receipt.Receipt.{Receipt}
 use Rattle.event_lists.specs.declared.mark.Item.{Item}
 use Rattle.event_lists.specs.declared.mark.Item.TheVariants.{Message, Task}
 use Rattle.event_lists.specs.declared.mark.Mark.{Mark}
-use Rattle.event_lists.specs.Events.{Begins, part, main_of, Kind, count, times_made, times_ended}
-use Rattle.event_lists.specs.Futures.{Future, due_of, times_given}
+use Rattle.event_lists.specs.Events.{Begins, StandsOn, part, main_of, Kind, count, makes, times_made, times_ended}
+use Rattle.event_lists.specs.Futures.{Future, due_of, needs_of, times_given}
 use Rattle.event_lists.specs.Fences.{row_of, IsComplete}
 use Rattle.event_lists.specs.Quiet.{Quiet}
 use Rattle.event_lists.specs.Legal.{Legal}
@@ -30,6 +34,27 @@ TasksRunOnce = (r n : ℕ) → EndsOnceAfterMade (Task r n)
 -- a future is given at most once
 abbrev pub FuturesAreGivenOnce : Type 0
 FuturesAreGivenOnce = (ranks workers : ℕ) (log : List Mark) → Legal ranks workers log → (f : Future) → times_given f log ≤ 1
+
+abbrev pub label_of : Option Future → Option Label
+label_of None = None
+label_of (Some f) = Some f.label
+
+-- the label of the due of what an event makes, by its own words
+abbrev pub named_due : Event → Option Label
+named_due (Sent n to (Spawned u d)) = d
+named_due (Sent n to (Give d)) = Some d
+named_due (Submitted n t) = t.due
+named_due _ = None
+
+-- the future that a message or task has as its due has the label that its event names
+abbrev pub DuesAreNamed : Type 0
+DuesAreNamed =
+    (ranks workers : ℕ) (log : List Mark) → Legal ranks workers log → (l : LaneName) (e : Event) (c : Item) → makes l.rank e ≡ Some c → StandsOn l e log → label_of (due_of c log) ≡ named_due e
+
+-- the futures that a task needs have the labels that its name has, in their order
+abbrev pub NeedsAreNamed : Type 0
+NeedsAreNamed =
+    (ranks workers : ℕ) (log : List Mark) → Legal ranks workers log → (l : LaneName) (n : ℕ) (t : TaskName) → StandsOn l (Submitted n t) log → map (λ f. f.label) (needs_of (Task l.rank n) log) ≡ t.needs
 
 -- x is the receipt r, and a legal list ends with it; p is the pass before its own
 pub record Received (ranks workers : ℕ) (before : List Mark) (x : Mark) (r : Receipt) (p : ℕ) : Type 0 where

@@ -1,5 +1,5 @@
 //! Laws about legal lists of events: each function's contract is a law, and its body is empty.
-ghost use Rattle.event_lists.specs.Laws.{BeginningsAreLegal, MessagesAreHandledOnce, TasksRunOnce, FuturesAreGivenOnce, CountsAreFrozen, NothingIsOpen, NothingChanges, NothingIsDone, DuesAreGiven, ReceiptsAreQuiet};
+ghost use Rattle.event_lists.specs.Laws.{BeginningsAreLegal, MessagesAreHandledOnce, TasksRunOnce, FuturesAreGivenOnce, DuesAreNamed, NeedsAreNamed, CountsAreFrozen, NothingIsOpen, NothingChanges, NothingIsDone, DuesAreGiven, ReceiptsAreQuiet};
 ghost use Rattle.event_lists.specs.Legal.{Legal};
 ghost use Rattle.event_lists.specs.Books.{first_book, one_pass, second_book, one_reading, third_book, IsIllegal};
 ghost use Rattle.event_lists.specs.Runs.{whole_run, taken_too_early, handled_too_early, ran_too_early, IsRefused};
@@ -15,6 +15,12 @@ pub fn events_are_counted_once()
     ensures messages { MessagesAreHandledOnce }
     ensures tasks { TasksRunOnce }
     ensures futures { FuturesAreGivenOnce }
+{}
+
+/// The futures that a message or task has as its due and its needs have the labels that it names.
+pub fn futures_have_their_names()
+    ensures dues { DuesAreNamed }
+    ensures needs { NeedsAreNamed }
 {}
 
 /// Where the two passes of a receipt agree in their sums, they have the same row at each rank.

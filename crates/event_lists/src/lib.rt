@@ -16,8 +16,9 @@ pub use event::{Event, Parcel, TaskName};
 pub use lane::LaneName;
 pub use laws::{
     a_run_with_tasks_is_judged, beginnings_are_legal, counts_are_frozen,
-    dues_are_given_up_to_the_receipt, events_are_counted_once, nothing_changes_up_to_the_receipt,
-    nothing_is_open_between_the_passes, receipts_are_quiet, small_runs_are_judged,
+    dues_are_given_up_to_the_receipt, events_are_counted_once, futures_have_their_names,
+    nothing_changes_up_to_the_receipt, nothing_is_open_between_the_passes, receipts_are_quiet,
+    small_runs_are_judged,
 };
-pub use mark::{Effected, Item, Mark};
+pub use mark::{EffectName, Item, Mark};
 pub use receipt::{Receipt, Row, Rows};

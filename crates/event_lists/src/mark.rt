@@ -17,7 +17,7 @@ pub enum Item {
 
 /// The effect that an event carried out: the one at a place of a task.
 #[derive(Clone, Copy, Debug, PartialEq, Eq)]
-pub struct Effected {
+pub struct EffectName {
     pub rank: u32,
     pub number: u64,
     pub place: u64,
@@ -30,5 +30,5 @@ pub struct Effected {
 pub struct Mark {
     pub lane: LaneName,
     pub event: Event,
-    pub effect: Option<Effected>,
+    pub effect: Option<EffectName>,
 }
