@@ -1,0 +1,14 @@
+pub mod Lists
+pub mod Waiting
+pub mod Sums
+pub mod Passes
+pub mod Moments
+pub mod Agreed
+pub mod Cuts
+pub mod Owners
+pub mod Given
+pub mod Receipts
+pub mod Books
+pub mod Kept
+pub mod Runs
+pub mod Named

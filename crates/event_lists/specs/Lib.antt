@@ -1,0 +1,13 @@
+pub mod Rows
+pub mod RowsLaws
+pub mod Events
+pub mod Futures
+pub mod Counting
+pub mod Dues
+pub mod Fences
+pub mod Bins
+pub mod Legal
+pub mod Quiet
+pub mod Laws
+pub mod Books
+pub mod Runs

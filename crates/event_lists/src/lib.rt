@@ -1,0 +1,24 @@
+//! Events of a run, the rules that make a list of them legal, and what a fence's receipt tells of such a list.
+//!
+//! The definitions stand in `specs/`; lists of events have the newest first. This crate has the events as plain data,
+//! and laws about the definitions, each a contract with an empty body. The rules of the two passes over messages sent
+//! and handled are after Mattern's four-counter method, which the fence of MADNESS uses too; the counting of tasks in
+//! numbers that only grow, the order of the readings and the receipt are this project's own.
+#![tactic(auto)]
+
+mod event;
+mod lane;
+mod laws;
+mod mark;
+mod receipt;
+
+pub use event::{Event, Parcel, TaskName};
+pub use lane::LaneName;
+pub use laws::{
+    a_run_with_tasks_is_judged, beginnings_are_legal, counts_are_frozen,
+    dues_are_given_up_to_the_receipt, events_are_counted_once, futures_have_their_names,
+    nothing_changes_up_to_the_receipt, nothing_is_open_between_the_passes, receipts_are_quiet,
+    small_runs_are_judged,
+};
+pub use mark::{EffectName, Item, Mark};
+pub use receipt::{Receipt, Row, Rows};
