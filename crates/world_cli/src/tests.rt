@@ -2,6 +2,7 @@ ghost use Rattle.std.specs.Prelude.{◌≡◌, []};
 ghost use Rattle.outside.specs.Causes.{Rose};
 
 use crate::world_main;
+use job_lang::{parse, print};
 use outside::{MemSink, MemSource};
 use std::alloc::{AllocError, Global};
 use std::test::Fail;
@@ -94,7 +95,21 @@ const RAMP_LINES: &[u8] = b"job 1 depth 2\nproject f ramp 0 1 level 0 tol 0\n";
 // The ramp's tree in its compressed form.
 const COMPRESSED_TEXT: &[u8] = b"tree f compressed 6\n0 0 -4\n1 0 -1\n1 1 -1\n";
 
-// The same with the words `serial`.
+// The job of a ramp is its own canonical text, and reads as the same job again.
+#[test]
+fn canonical_job(rt: HostRuntime) -> Result<(), Fail> {
+    let alloc = rt.alloc();
+    let job = parse(alloc, RAMP)?;
+    let text = print(alloc, &job)?;
+    assert!(rt; text.as_slice() == RAMP);
+    let again = parse(alloc, &text)?;
+    assert_eq!(rt; again.depth(), job.depth());
+    assert_eq!(rt; again.command_count(), job.command_count());
+    assert!(rt; print(alloc, &again)?.as_slice() == RAMP);
+    Ok(())
+}
+
+// Runs the program with the word `serial` over memory that has these parts.
 fn serial_of(alloc: Global, parts: &[&[u8]]) -> Result<Outcome, AllocError> {
     let mut input = Vec::new(alloc);
     for part in parts {
