@@ -9,7 +9,9 @@ use Rattle.event_lists.specs.declared.event.Event.TheVariants.{Sent, Submitted}
 use Rattle.event_lists.specs.declared.receipt.Row.{Row}
 use Rattle.event_lists.specs.declared.mark.Item.{Item}
 use Rattle.event_lists.specs.declared.mark.Mark.{Mark}
-use Rattle.event_lists.specs.Events.{part, main_of, Begins, in_hand, Kind, sends, handlings, submissions, runs, count, makes}
+use Rattle.event_lists.specs.declared.kind.Kind.{Kind}
+use Rattle.event_lists.specs.declared.kind.Kind.TheVariants.{Sends as sends, Handlings as handlings, Submissions as submissions, Runs as runs}
+use Rattle.event_lists.specs.Events.{part, main_of, Begins, in_hand, count, makes}
 use Rattle.event_lists.specs.Counting.{Counting, MaySpawn, MaySubmit}
 use Rattle.event_lists.specs.Fences.{Fences, row_of, IsComplete, Agree, sum_ranks, total_sent, total_handled, sent_in, handled_in, fence_in, has_receipt, is_receipt}
 use Rattle.event_lists.specs.Quiet.{named}

@@ -4,8 +4,11 @@ use Rattle.std.specs.Prelude.{Some, slice_get}
 use Rattle.event_lists.specs.declared.event.Event.TheVariants.{ReadHandled, ReadRan, ReadSubmitted, Enter, Receipt as Receives}
 use Rattle.event_lists.specs.declared.receipt.Row.{Row}
 use Rattle.event_lists.specs.declared.mark.Mark.{Mark}
-use Rattle.event_lists.specs.Events.{part, main_of, Kind, sends, handlings, submissions, runs}
-use Rattle.event_lists.specs.Fences.{Reading, reading, row_of, IsComplete, IsReady}
+use Rattle.event_lists.specs.declared.kind.Kind.{Kind}
+use Rattle.event_lists.specs.declared.kind.Kind.TheVariants.{Sends as sends, Handlings as handlings, Submissions as submissions, Runs as runs}
+use Rattle.event_lists.specs.Events.{part, main_of}
+use Rattle.event_lists.specs.declared.kind.Reading.{Reading}
+use Rattle.event_lists.specs.Fences.{reading, row_of, IsComplete, IsReady}
 use Rattle.event_lists.specs.Legal.{Legal}
 use Rattle.event_lists.specs.Books.{by_main, empty_receipt, one_pass, two_passes, first_book, second_book, one_reading, third_book, IsIllegal}
 

@@ -9,7 +9,8 @@ use Rattle.event_lists.specs.declared.receipt.Receipt.{Receipt}
 use Rattle.event_lists.specs.declared.mark.Item.{Item}
 use Rattle.event_lists.specs.declared.mark.Item.TheVariants.{Message, Task}
 use Rattle.event_lists.specs.declared.mark.Mark.{Mark}
-use Rattle.event_lists.specs.Events.{part, main_of, Begins, Stands, StandsOn, in_hand, sends, is_item, takes, ends, times_ended, IsSent}
+use Rattle.event_lists.specs.declared.kind.Kind.TheVariants.{Sends as sends}
+use Rattle.event_lists.specs.Events.{part, main_of, Begins, Stands, StandsOn, in_hand, is_item, takes, ends, times_ended, IsSent}
 use Rattle.event_lists.specs.Counting.{Counting}
 use Rattle.event_lists.specs.Fences.{Fences, row_of, IsComplete}
 use Rattle.event_lists.specs.Quiet.{named, IsCut, AllHandledOnce, AllRanOnce}

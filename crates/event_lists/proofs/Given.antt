@@ -13,7 +13,8 @@ use Rattle.event_lists.specs.declared.mark.Item.{Item}
 use Rattle.event_lists.specs.declared.mark.Item.TheVariants.{Message, Task, Effect}
 use Rattle.event_lists.specs.declared.mark.Mark.{Mark}
 use Rattle.event_lists.specs.Events.{Begins, part, in_hand, is_item, makes, takes, ends, times_made}
-use Rattle.event_lists.specs.Futures.{Future, is_future, bringer, futures_by, spawned_needs, is_own, due_of_spawn, due_made, own_due, needs_of, was_due, passes_on, is_fresh, gives, times_given, IsIn}
+use Rattle.event_lists.specs.declared.future.Future.{Future}
+use Rattle.event_lists.specs.Futures.{is_future, bringer, futures_by, spawned_needs, is_own, due_of_spawn, due_made, own_due, needs_of, was_due, passes_on, is_fresh, gives, times_given, IsIn}
 use Rattle.event_lists.specs.Counting.{Counting, MaySpawn, MaySubmit}
 use Rattle.event_lists.specs.Dues.{Dues, DueIsFree, KeepsDue, Carries, SubmitsFreely}
 use Rattle.event_lists.specs.Quiet.{AllNeedsGivenOnce}

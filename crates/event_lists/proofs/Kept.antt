@@ -12,7 +12,8 @@ use Rattle.event_lists.specs.declared.mark.Item.{Item}
 use Rattle.event_lists.specs.declared.mark.Item.TheVariants.{Message, Task, Effect}
 use Rattle.event_lists.specs.declared.mark.Mark.{Mark}
 use Rattle.event_lists.specs.Events.{part, same_lane, in_hand, hand_after, is_item, makes, takes, times_made, is_taken}
-use Rattle.event_lists.specs.Futures.{Future, is_future, is_own, due_of_spawn, due_made, due_of, own_due, is_kept, is_fresh, gives, times_given}
+use Rattle.event_lists.specs.declared.future.Future.{Future}
+use Rattle.event_lists.specs.Futures.{is_future, is_own, due_of_spawn, due_made, due_of, own_due, is_kept, is_fresh, gives, times_given}
 use Rattle.event_lists.specs.Counting.{Counting, MaySpawn}
 use Rattle.event_lists.specs.Dues.{Dues, HasPassedOn}
 use Rattle.event_lists.specs.Legal.{Legal}

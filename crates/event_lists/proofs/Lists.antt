@@ -8,7 +8,9 @@ use Rattle.event_lists.specs.declared.event.Event.TheVariants.{Sent, Handled, Su
 use Rattle.event_lists.specs.declared.mark.Item.{Item}
 use Rattle.event_lists.specs.declared.mark.Item.TheVariants.{Message, Task, Effect}
 use Rattle.event_lists.specs.declared.mark.Mark.{Mark}
-use Rattle.event_lists.specs.Events.{Begins, part, same_lane, same_bool, Stands, StandsOn, Kind, sends, handlings, submissions, runs, is_kind, number, counts, count, same_item, is_item, makes, times_made}
+use Rattle.event_lists.specs.declared.kind.Kind.{Kind}
+use Rattle.event_lists.specs.declared.kind.Kind.TheVariants.{Sends as sends, Handlings as handlings, Submissions as submissions, Runs as runs}
+use Rattle.event_lists.specs.Events.{Begins, part, same_lane, same_bool, Stands, StandsOn, is_kind, number, counts, count, same_item, is_item, makes, times_made}
 use Rattle.event_lists.specs.Counting.{Counting}
 use Rattle.event_lists.specs.Legal.{Legal}
 

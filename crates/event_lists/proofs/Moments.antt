@@ -7,8 +7,11 @@ use Rattle.event_lists.specs.declared.event.Event.{Event}
 use Rattle.event_lists.specs.declared.event.Event.TheVariants.{ReadHandled, ReadRan, ReadSubmitted, ReadSent, Enter, Leave}
 use Rattle.event_lists.specs.declared.receipt.Row.{Row}
 use Rattle.event_lists.specs.declared.mark.Mark.{Mark}
-use Rattle.event_lists.specs.Events.{part, same_lane, main_of, Begins, Kind, sends, handlings, submissions, runs, count}
-use Rattle.event_lists.specs.Fences.{Fences, Reading, reading, readings, passes, row_after, row_of, IsReady, InOrder, Reads, fence_in, enters, is_receipt, has_receipt}
+use Rattle.event_lists.specs.declared.kind.Kind.{Kind}
+use Rattle.event_lists.specs.declared.kind.Kind.TheVariants.{Sends as sends, Handlings as handlings, Submissions as submissions, Runs as runs}
+use Rattle.event_lists.specs.Events.{part, same_lane, main_of, Begins, count}
+use Rattle.event_lists.specs.declared.kind.Reading.{Reading}
+use Rattle.event_lists.specs.Fences.{Fences, reading, readings, passes, row_after, row_of, IsReady, InOrder, Reads, fence_in, enters, is_receipt, has_receipt}
 use Rattle.event_lists.specs.Legal.{Legal}
 use Rattle.event_lists.proofs.Lists.{same_lane_true, begins_refl, begins_more}
 
@@ -18,8 +21,8 @@ module _ (ranks workers q : ℕ) where
     pub at : List Mark
     pub begins : Begins at log
     pub is : r.found ≡ count r.kind q at
-    pub inside : fence_in (part (main_of q) at) ≡ Some r.of_fence
-    pub order : InOrder ranks at rest r.kind r.of_fence r.of_pass
+    pub inside : fence_in (part (main_of q) at) ≡ Some r.fence
+    pub order : InOrder ranks at rest r.kind r.fence r.pass
 
   -- so were all readings of an attempt, each before the next
   abbrev pub Placed : List Reading → List Mark → Type 0

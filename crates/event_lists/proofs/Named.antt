@@ -11,7 +11,9 @@ use Rattle.event_lists.specs.declared.mark.Item.{Item}
 use Rattle.event_lists.specs.declared.mark.Item.TheVariants.{Message, Task, Effect}
 use Rattle.event_lists.specs.declared.mark.Mark.{Mark}
 use Rattle.event_lists.specs.Events.{part, StandsOn, in_hand, is_item, makes}
-use Rattle.event_lists.specs.Futures.{Bringer, Future, bringer, future_by, futures_by, spawned_needs, is_own, due_of_spawn, due_made, due_of, own_due, needs_of}
+use Rattle.event_lists.specs.declared.future.Bringer.{Bringer}
+use Rattle.event_lists.specs.declared.future.Future.{Future}
+use Rattle.event_lists.specs.Futures.{bringer, future_by, futures_by, spawned_needs, is_own, due_of_spawn, due_made, due_of, own_due, needs_of}
 use Rattle.event_lists.specs.Counting.{Counting, MaySpawn, MaySubmit}
 use Rattle.event_lists.specs.Dues.{Dues, KeepsDue, SubmitsFreely}
 use Rattle.event_lists.specs.Laws.{label_of, named_due}

@@ -12,7 +12,10 @@ use Rattle.event_lists.specs.declared.mark.Item.{Item}
 use Rattle.event_lists.specs.declared.mark.Item.TheVariants.{Message, Task, Effect}
 use Rattle.event_lists.specs.declared.mark.Mark.{Mark}
 use Rattle.event_lists.specs.Events.{part, same_lane, in_hand, is_item, makes, takes, is_taken}
-use Rattle.event_lists.specs.Futures.{Bringer, task_of, main_at, Future, same_bringer, same_future, is_future, bringer, future_by, is_bringer, spawned_due, is_own, due_of_spawn, due_made, due_of, own_due, was_due, passes_on, is_kept, is_fresh}
+use Rattle.event_lists.specs.declared.future.Bringer.{Bringer}
+use Rattle.event_lists.specs.declared.future.Bringer.TheVariants.{Task as task_of, Main as main_at}
+use Rattle.event_lists.specs.declared.future.Future.{Future}
+use Rattle.event_lists.specs.Futures.{same_bringer, same_future, is_future, bringer, future_by, is_bringer, spawned_due, is_own, due_of_spawn, due_made, due_of, own_due, was_due, passes_on, is_kept, is_fresh}
 use Rattle.event_lists.specs.Counting.{Counting, MaySpawn}
 use Rattle.event_lists.specs.Dues.{DueIsFree}
 use Rattle.event_lists.specs.Legal.{Legal}

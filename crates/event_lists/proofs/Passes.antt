@@ -9,7 +9,9 @@ use Rattle.event_lists.specs.declared.event.Event.TheVariants.{Sent, TookMessage
 use Rattle.event_lists.specs.declared.mark.Item.{Item}
 use Rattle.event_lists.specs.declared.mark.Item.TheVariants.{Message, Task, Effect}
 use Rattle.event_lists.specs.declared.mark.Mark.{Mark}
-use Rattle.event_lists.specs.Events.{part, same_lane, Begins, in_hand, Kind, sends, handlings, submissions, runs, is_kind, counts, count, makes, ends}
+use Rattle.event_lists.specs.declared.kind.Kind.{Kind}
+use Rattle.event_lists.specs.declared.kind.Kind.TheVariants.{Sends as sends, Handlings as handlings, Submissions as submissions, Runs as runs}
+use Rattle.event_lists.specs.Events.{part, same_lane, Begins, in_hand, is_kind, counts, count, makes, ends}
 use Rattle.event_lists.specs.Counting.{Counting}
 use Rattle.event_lists.specs.Fences.{sum_ranks}
 use Rattle.event_lists.specs.Legal.{Legal}

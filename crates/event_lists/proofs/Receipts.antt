@@ -9,13 +9,15 @@ use Rattle.event_lists.specs.declared.event.Parcel.TheVariants.{Give}
 use Rattle.event_lists.specs.declared.mark.Item.TheVariants.{Message, Task}
 use Rattle.event_lists.specs.Counting.{Counting}
 use Rattle.event_lists.specs.Dues.{Dues, Carries, KeepsDue}
-use Rattle.event_lists.specs.Futures.{Future, due_of, times_given}
+use Rattle.event_lists.specs.declared.future.Future.{Future}
+use Rattle.event_lists.specs.Futures.{due_of, times_given}
 use Rattle.event_lists.proofs.Moments.{row_kept}
 use Rattle.event_lists.proofs.Kept.{due_given}
 use Rattle.event_lists.specs.declared.receipt.Receipt.{Receipt}
 use Rattle.event_lists.specs.declared.mark.Item.{Item}
 use Rattle.event_lists.specs.declared.mark.Mark.{Mark}
-use Rattle.event_lists.specs.Events.{Begins, part, main_of, in_hand, makes, takes, Kind, count, times_made, times_ended}
+use Rattle.event_lists.specs.declared.kind.Kind.{Kind}
+use Rattle.event_lists.specs.Events.{Begins, part, main_of, in_hand, makes, takes, count, times_made, times_ended}
 use Rattle.event_lists.specs.Fences.{row_of, IsComplete}
 use Rattle.event_lists.specs.Quiet.{Quiet}
 use Rattle.event_lists.specs.Laws.{Received, is_work}

@@ -5,7 +5,9 @@ use Rattle.event_lists.specs.declared.event.Event.TheVariants.{Sent, TookMessage
 use Rattle.event_lists.specs.declared.event.Parcel.TheVariants.{Unit as Spawned, Give}
 use Rattle.event_lists.specs.declared.mark.Mark.{Mark}
 use Rattle.event_lists.specs.Events.{main_of}
-use Rattle.event_lists.specs.Futures.{Future, main_at, times_given, IsIn}
+use Rattle.event_lists.specs.declared.future.Bringer.TheVariants.{Main as main_at}
+use Rattle.event_lists.specs.declared.future.Future.{Future}
+use Rattle.event_lists.specs.Futures.{times_given, IsIn}
 use Rattle.event_lists.specs.Legal.{Legal}
 use Rattle.event_lists.specs.Runs.{label, giver, needer, main_does, spawned, taken, handled_there, ran_there, given_here, whole_run, taken_too_early, handled_too_early, ran_too_early, IsRefused}
 

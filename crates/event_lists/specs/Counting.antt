@@ -8,7 +8,8 @@ use Rattle.event_lists.specs.declared.event.TaskName.{TaskName}
 use Rattle.event_lists.specs.declared.mark.Item.{Item}
 use Rattle.event_lists.specs.declared.mark.Item.TheVariants.{Message, Task}
 use Rattle.event_lists.specs.declared.mark.Mark.{Mark}
-use Rattle.event_lists.specs.Events.{main_of, count, sends, handlings, submissions, runs, in_hand, is_taken, IsSent, IsSubmitted}
+use Rattle.event_lists.specs.declared.kind.Kind.TheVariants.{Sends as sends, Handlings as handlings, Submissions as submissions, Runs as runs}
+use Rattle.event_lists.specs.Events.{main_of, count, in_hand, is_taken, IsSent, IsSubmitted}
 
 -- a task is in hand; or nothing is, and the lane is a main's
 abbrev pub MaySpawn : LaneName → Option Item → Type 0

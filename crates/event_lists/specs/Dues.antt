@@ -12,7 +12,10 @@ use Rattle.event_lists.specs.declared.mark.Item.{Item}
 use Rattle.event_lists.specs.declared.mark.Item.TheVariants.{Message, Task}
 use Rattle.event_lists.specs.declared.mark.Mark.{Mark}
 use Rattle.event_lists.specs.Events.{in_hand, IsSent}
-use Rattle.event_lists.specs.Futures.{Bringer, task_of, main_at, Future, bringer, is_own, own_due, needs_of, was_due, was_needed, is_kept, is_fresh, times_given, IsIn}
+use Rattle.event_lists.specs.declared.future.Bringer.{Bringer}
+use Rattle.event_lists.specs.declared.future.Bringer.TheVariants.{Task as task_of, Main as main_at}
+use Rattle.event_lists.specs.declared.future.Future.{Future}
+use Rattle.event_lists.specs.Futures.{bringer, is_own, own_due, needs_of, was_due, was_needed, is_kept, is_fresh, times_given, IsIn}
 
 abbrev pub WasNoDue : Option Bringer → Label → List Mark → Type 0
 WasNoDue None d log = ⊥

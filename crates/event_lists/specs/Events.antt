@@ -1,6 +1,8 @@
 -- Lists of events, the newest first, and what is counted and found in them.
 use Rattle.std.specs.Prelude.{◌≡◌, ◌⊎◌, ℕ, ◌+◌, Bool, true, false, not, ◌&&◌, ◌||◌, ◌==◌, if◌then◌else◌, List, [], ◌∷◌, ◌++◌, Option, Some, None}
 use Rattle.event_lists.specs.declared.lane.LaneName.{LaneName}
+use Rattle.event_lists.specs.declared.kind.Kind.{Kind}
+use Rattle.event_lists.specs.declared.kind.Kind.TheVariants.{Sends as sends, Handlings as handlings, Submissions as submissions, Runs as runs}
 use Rattle.event_lists.specs.declared.event.Event.{Event}
 use Rattle.event_lists.specs.declared.event.Event.TheVariants.{Sent, TookMessage, TookTask, Handled, Submitted, Ran}
 use Rattle.event_lists.specs.declared.event.Parcel.{Parcel}
@@ -38,13 +40,6 @@ Stands x (y ∷ log) = (y ≡ x) ⊎ Stands x log
 abbrev pub StandsOn : LaneName → Event → List Mark → Type 0
 StandsOn l e [] = ⊥
 StandsOn l e (x ∷ log) = ((x.lane ≡ l) × (x.event ≡ e)) ⊎ StandsOn l e log
-
--- the four kinds of events that are counted
-pub data Kind : Type 0 where
-  sends : Kind
-  handlings : Kind
-  submissions : Kind
-  runs : Kind
 
 abbrev pub is_kind : Kind → Event → Bool
 is_kind sends (Sent n to p) = true

@@ -1,12 +1,15 @@
 -- The third part of what an event asks of the list before it: fences, their readings and their receipts.
 use Rattle.std.specs.Prelude.{◌≡◌, ◌≢◌, ◌⊎◌, ℕ, zero, suc, ◌+◌, ◌<◌, Bool, true, false, ◌&&◌, ◌||◌, ◌==◌, if◌then◌else◌, List, [], ◌∷◌, Option, Some, None, length, slice_get}
 use Rattle.event_lists.specs.declared.lane.LaneName.{LaneName}
+use Rattle.event_lists.specs.declared.kind.Reading.{Reading}
 use Rattle.event_lists.specs.declared.event.Event.{Event}
 use Rattle.event_lists.specs.declared.event.Event.TheVariants.{Sent, Submitted, ReadHandled, ReadRan, ReadSubmitted, ReadSent, Enter, Leave, Receipt as Receives}
 use Rattle.event_lists.specs.declared.receipt.Row.{Row}
 use Rattle.event_lists.specs.declared.receipt.Receipt.{Receipt}
 use Rattle.event_lists.specs.declared.mark.Mark.{Mark}
-use Rattle.event_lists.specs.Events.{main_of, part, count, Kind, sends, handlings, submissions, runs, in_hand}
+use Rattle.event_lists.specs.declared.kind.Kind.{Kind}
+use Rattle.event_lists.specs.declared.kind.Kind.TheVariants.{Sends as sends, Handlings as handlings, Submissions as submissions, Runs as runs}
+use Rattle.event_lists.specs.Events.{main_of, part, count, in_hand}
 
 -- the fence that a main is in, by its part
 abbrev pub fence_in : List Event → Option ℕ
@@ -21,15 +24,8 @@ enters [] = 0
 enters (Enter e ∷ es) = suc (enters es)
 enters (_ ∷ es) = enters es
 
--- a reading: which count was read, what was found, and for which pass of which fence
-pub record Reading : Type 0 where
-  pub kind : Kind
-  pub found : ℕ
-  pub of_fence : ℕ
-  pub of_pass : ℕ
-
 abbrev pub reading : Kind → ℕ → ℕ → ℕ → Reading
-reading k v f p = record { kind = k; found = v; of_fence = f; of_pass = p }
+reading k v f p = record { kind = k; found = v; fence = f; pass = p }
 
 -- the readings of a main since it last entered a fence
 abbrev pub readings : List Event → List Reading

@@ -3,6 +3,9 @@ use Rattle.std.specs.Prelude.{◌≡◌, ◌⊎◌, ℕ, ◌+◌, Bool, true, fa
 use Rattle.std.specs.List.{list_any}
 use Rattle.app_core.specs.declared.label.Label.{Label}
 use Rattle.app_core.specs.Outlines.{same_label, is_due}
+use Rattle.event_lists.specs.declared.future.Bringer.{Bringer}
+use Rattle.event_lists.specs.declared.future.Bringer.TheVariants.{Main as main_at, Task as task_of}
+use Rattle.event_lists.specs.declared.future.Future.{Future}
 use Rattle.event_lists.specs.declared.event.Event.{Event}
 use Rattle.event_lists.specs.declared.event.Event.TheVariants.{Sent, TookMessage, TookTask, Submitted, Gave}
 use Rattle.event_lists.specs.declared.event.Parcel.TheVariants.{Unit as Spawned, Give}
@@ -10,16 +13,6 @@ use Rattle.event_lists.specs.declared.mark.Item.{Item}
 use Rattle.event_lists.specs.declared.mark.Item.TheVariants.{Message, Task}
 use Rattle.event_lists.specs.declared.mark.Mark.{Mark}
 use Rattle.event_lists.specs.Events.{part, in_hand, is_item, makes}
-
--- who spawns: a task, or the main of a rank
-pub data Bringer : Type 0 where
-  task_of : ℕ → ℕ → Bringer
-  main_at : ℕ → Bringer
-
--- a future is who brought it up, with a label
-pub record Future : Type 0 where
-  pub by : Bringer
-  pub label : Label
 
 abbrev pub same_bringer : Bringer → Bringer → Bool
 same_bringer (task_of r n) (task_of q m) = (r == q) && (n == m)

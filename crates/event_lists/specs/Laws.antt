@@ -10,8 +10,10 @@ use Rattle.event_lists.specs.declared.receipt.Receipt.{Receipt}
 use Rattle.event_lists.specs.declared.mark.Item.{Item}
 use Rattle.event_lists.specs.declared.mark.Item.TheVariants.{Message, Task}
 use Rattle.event_lists.specs.declared.mark.Mark.{Mark}
-use Rattle.event_lists.specs.Events.{Begins, StandsOn, part, main_of, Kind, count, makes, times_made, times_ended}
-use Rattle.event_lists.specs.Futures.{Future, due_of, needs_of, times_given}
+use Rattle.event_lists.specs.declared.kind.Kind.{Kind}
+use Rattle.event_lists.specs.Events.{Begins, StandsOn, part, main_of, count, makes, times_made, times_ended}
+use Rattle.event_lists.specs.declared.future.Future.{Future}
+use Rattle.event_lists.specs.Futures.{due_of, needs_of, times_given}
 use Rattle.event_lists.specs.Fences.{row_of, IsComplete}
 use Rattle.event_lists.specs.Quiet.{Quiet}
 use Rattle.event_lists.specs.Legal.{Legal}

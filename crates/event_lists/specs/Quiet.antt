@@ -9,8 +9,11 @@ use Rattle.event_lists.specs.declared.receipt.Receipt.{Receipt}
 use Rattle.event_lists.specs.declared.mark.Item.{Item}
 use Rattle.event_lists.specs.declared.mark.Item.TheVariants.{Message, Task}
 use Rattle.event_lists.specs.declared.mark.Mark.{Mark}
-use Rattle.event_lists.specs.Events.{Begins, Stands, StandsOn, Kind, sends, handlings, submissions, runs, number, takes, times_ended, IsSent, IsSubmitted}
-use Rattle.event_lists.specs.Futures.{Future, needs_of, times_given, IsIn}
+use Rattle.event_lists.specs.declared.kind.Kind.{Kind}
+use Rattle.event_lists.specs.declared.kind.Kind.TheVariants.{Sends as sends, Handlings as handlings, Submissions as submissions, Runs as runs}
+use Rattle.event_lists.specs.Events.{Begins, Stands, StandsOn, number, takes, times_ended, IsSent, IsSubmitted}
+use Rattle.event_lists.specs.declared.future.Future.{Future}
+use Rattle.event_lists.specs.Futures.{needs_of, times_given, IsIn}
 
 -- the number that a row names for a kind: submissions and runs have one
 abbrev pub named : Kind → Row → ℕ

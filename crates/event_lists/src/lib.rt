@@ -7,12 +7,16 @@
 #![tactic(auto)]
 
 mod event;
+mod future;
+mod kind;
 mod lane;
 mod laws;
 mod mark;
 mod receipt;
 
 pub use event::{Event, Parcel, TaskName};
+pub use future::{Bringer, Future};
+pub use kind::{Kind, Reading};
 pub use lane::LaneName;
 pub use laws::{
     a_run_with_tasks_is_judged, beginnings_are_legal, counts_are_frozen,

@@ -3,7 +3,7 @@ use crate::event::Event;
 use crate::lane::LaneName;
 
 /// What one hand may have: a message, a task, or an effect of a task, by numbers alone.
-#[derive(Clone, Copy, Debug, PartialEq, Eq)]
+#[derive(Clone, Copy, Debug, PartialEq, Eq, PartialOrd, Ord, Hash)]
 pub enum Item {
     /// Message `number` that rank `rank` sent.
     Message { rank: u32, number: u64 },
