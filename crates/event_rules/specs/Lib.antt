@@ -1,0 +1,4 @@
+pub mod Shown
+pub mod Listed
+pub mod Asks
+pub mod States
