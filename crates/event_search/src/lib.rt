@@ -1,0 +1,17 @@
+//! A list of events as it stands, which is searched for each answer.
+//!
+//! [`SearchedList`] keeps the events of a run in order, judges each new one by the rules of `event_rules`, and finds
+//! what these ask for by plain searches that read as the definitions do. It is the program of the definitions: short,
+//! and slow, since each answer goes through the list.
+#![tactic(auto)]
+
+mod dues;
+mod fences;
+mod items;
+mod lanes;
+mod list;
+mod past;
+#[cfg(test)]
+mod tests;
+
+pub use list::SearchedList;
