@@ -1,0 +1,10 @@
+pub mod Follows
+pub mod Trees
+pub mod Apart
+pub mod Held
+pub mod Stages
+pub mod Done
+pub mod Laws
+pub mod Totals
+pub mod Runs
+pub mod Receipts
