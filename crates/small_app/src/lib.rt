@@ -13,6 +13,7 @@
 
 mod app;
 mod held;
+mod lists;
 mod shared;
 #[cfg(test)]
 mod tests;
@@ -20,5 +21,6 @@ mod unit;
 
 pub use app::SmallApp;
 pub use held::{Held, Table};
+pub use lists::{entries_held_are_those_by_hand, totals_are_those_by_hand};
 pub use shared::{give, look, step_and_look};
 pub use unit::Unit;

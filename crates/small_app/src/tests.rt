@@ -236,3 +236,18 @@ fn laws_hold_here() {
     laws::spawns_of_a_step_are_apart::<SmallApp>();
     laws::starts_of_a_command_are_apart::<SmallApp>();
 }
+
+// The laws of lists that follow an application, at this one.
+#[test]
+fn laws_on_lists_hold_here() {
+    event_laws::laws::spawns_of_a_tree_are_apart::<SmallApp>();
+    event_laws::laws::a_label_has_one_bringer::<SmallApp>();
+    event_laws::laws::effects_on_entries_are_apart::<SmallApp>();
+    event_laws::laws::erases_come_after_puts::<SmallApp>();
+    event_laws::receipts::all_before_the_fence_is_done::<SmallApp>();
+    event_laws::receipts::nothing_before_the_fence_comes_later::<SmallApp>();
+    event_laws::receipts::labels_tell_the_fences_before::<SmallApp>();
+    event_laws::receipts::entries_lie_where_they_were_put::<SmallApp>();
+    event_laws::receipts::named_units_are_done::<SmallApp>();
+    event_laws::receipts::named_units_are_counted::<SmallApp>();
+}

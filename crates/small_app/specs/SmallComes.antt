@@ -1,0 +1,231 @@
+-- Which units of the small application come up before a fence.
+use Rattle.std.proofs.Common.{◌≡◌, ℕ, zero, suc, ◌<◌, Bool, true, false, List, [], ◌∷◌, refl, sym, ap, subst, ◌∙◌, arith}
+use Rattle.std.specs.Prelude.{Option, Some, slice_get, ◌||◌, ◌&&◌, not, Contains}
+use Rattle.std.proofs.lemmas.Bool.{both_ways, and_parts, or_left, or_right}
+use Rattle.app_core.specs.declared.Label.{Label}
+use Rattle.app_core.specs.declared.Outline.{Outline}
+use Rattle.app_core.specs.declared.Outline.TheVariants as of
+use Rattle.app_core.specs.Commands.{IsWork}
+use Rattle.app_core.specs.Outlines.{same_label}
+use Rattle.event_lists.proofs.Owners.{same_label_refl}
+use Rattle.event_laws.specs.Trees.{unit_of}
+use Rattle.event_laws.specs.Apart.{Apart}
+use Rattle.event_laws.specs.Held.{fences_before}
+use Rattle.event_laws.specs.Stages.{IsStaged, Comes, started, spawned, IsOfFence, AreUnits}
+use Rattle.event_laws.proofs.Programs.{stages}
+use Rattle.small_app.specs.declared.unit.Unit.{Unit}
+use Rattle.small_app.specs.declared.unit.Unit.TheVariants.{Fill, Leaf, Sum, Clear, Read, Count, Total}
+use Rattle.small_app.specs.Small.{kinds, leaf_future, leaf_value, label_of, needs_of, due_of, home_of, IsUnit, MayDo, starts_of}
+use Rattle.small_app.specs.SmallUnits.{program, outlines_of, plan, home, first_units, all_units, units_before}
+use Rattle.small_app.specs.SmallTree.{spawn, by_start, by_label, spawns_only, at_label, some_is}
+
+-- commands
+
+pub of_command : (ranks command i : ℕ) (o : Outline) (u : Label) → IsWork kinds command → slice_get (starts_of ranks command) i ≡ Some o → unit_of o ≡ Some u → u.command ≡ command
+of_command ranks zero i o u w e s = absurd (cc)
+of_command ranks (suc zero) zero o u w e s = let a = ap unit_of (some_is (spawn ranks Fill) o e) ∙ s in ap (λ (l : Label). l.command) (sym (some_is (label_of Fill) u a))
+of_command ranks (suc zero) (suc i) o u w e s = absurd (cc)
+of_command ranks (suc (suc zero)) i o u w e s = absurd (cc)
+of_command ranks (suc (suc (suc zero))) zero o u w e s = let a = ap unit_of (some_is (spawn ranks Read) o e) ∙ s in ap (λ (l : Label). l.command) (sym (some_is (label_of Read) u a))
+of_command ranks (suc (suc (suc zero))) (suc zero) o u w e s = let a = ap unit_of (some_is (spawn ranks Count) o e) ∙ s in ap (λ (l : Label). l.command) (sym (some_is (label_of Count) u a))
+of_command ranks (suc (suc (suc zero))) (suc (suc zero)) o u w e s = let a = ap unit_of (some_is (spawn ranks Total) o e) ∙ s in ap (λ (l : Label). l.command) (sym (some_is (label_of Total) u a))
+of_command ranks (suc (suc (suc zero))) (suc (suc (suc i))) o u w e s = absurd (cc)
+of_command ranks (suc (suc (suc (suc more)))) i o u w e s = absurd (cc)
+
+pub in_command : (ranks : ℕ) (p : Label) (os : List Outline) (i : ℕ) (o : Outline) (u : Label) → MayDo ranks p os → slice_get os i ≡ Some o → unit_of o ≡ Some u → u.command ≡ p.command
+in_command ranks = spawns_only ranks (λ p i u. u.command ≡ p.command) refl refl refl refl
+
+abbrev pub stage : Label → ℕ
+stage u = fences_before u.command kinds
+
+pub staged : (ranks : ℕ) → IsStaged (program ranks) (MayDo ranks) stage
+staged ranks = stages kinds (starts_of ranks) (MayDo ranks) (of_command ranks) (in_command ranks)
+
+-- units
+
+fill_comes : (ranks : ℕ) → Comes (program ranks) (MayDo ranks) (label_of Fill) (home_of Fill ranks)
+fill_comes ranks = started 0 (label_of Fill) (due_of Fill) (needs_of Fill) (home_of Fill ranks) refl
+
+sum_comes : (ranks : ℕ) → Comes (program ranks) (MayDo ranks) (label_of Sum) (home_of Sum ranks)
+sum_comes ranks = spawned (label_of Fill) (home_of Fill ranks) (outlines_of ranks Fill) 2 (label_of Sum) (due_of Sum) (needs_of Sum) (home_of Sum ranks) (fill_comes ranks) (Fill, tt, refl, refl) refl
+
+-- each unit comes up at its home
+pub comes : (ranks : ℕ) (unit : Unit) → Comes (program ranks) (MayDo ranks) (label_of unit) (home_of unit ranks)
+comes ranks Fill = fill_comes ranks
+comes ranks (Leaf false value) = spawned (label_of Fill) (home_of Fill ranks) (outlines_of ranks Fill) 0 (leaf_future false) (Some (leaf_future false)) [] (home_of (Leaf false value) ranks) (fill_comes ranks) (Fill, tt, refl, refl) refl
+comes ranks (Leaf true value) = spawned (label_of Fill) (home_of Fill ranks) (outlines_of ranks Fill) 1 (leaf_future true) (Some (leaf_future true)) [] (home_of (Leaf true value) ranks) (fill_comes ranks) (Fill, tt, refl, refl) refl
+comes ranks Sum = sum_comes ranks
+comes ranks Clear = spawned (label_of Sum) (home_of Sum ranks) (outlines_of ranks Sum) 0 (label_of Clear) (due_of Clear) (needs_of Clear) (home_of Clear ranks) (sum_comes ranks) (Sum, tt, refl, refl) refl
+comes ranks Read = started 2 (label_of Read) (due_of Read) (needs_of Read) (home_of Read ranks) refl
+comes ranks Count = started 3 (label_of Count) (due_of Count) (needs_of Count) (home_of Count ranks) refl
+comes ranks Total = started 4 (label_of Total) (due_of Total) (needs_of Total) (home_of Total ranks) refl
+
+-- and what comes up is a unit, at its home
+abbrev IsAUnit : ℕ → Label → ℕ → Type 0
+IsAUnit ranks u q = (unit : Unit) × IsUnit unit × (label_of unit ≡ u) × (q ≡ home ranks u)
+
+is_unit : (ranks : ℕ) (unit : Unit) → IsUnit unit → home_of unit ranks ≡ home ranks (label_of unit) → (u : Label) (d : Option Label) (ns : List Label) (h : ℕ) → spawn ranks unit ≡ of.Spawn u d ns h → IsAUnit ranks u h
+is_unit ranks unit is at u d ns h e =
+    let a : label_of unit ≡ u = cc in
+    let c : home_of unit ranks ≡ h = cc in
+    (unit, is, a, sym c ∙ at ∙ ap (home ranks) a)
+
+came : (ranks : ℕ) (u : Label) (q : ℕ) → Comes (program ranks) (MayDo ranks) u q → IsAUnit ranks u q
+came ranks u q (started k _ d ns _ e) = by_start ranks (λ k o. (u : Label) (d : Option Label) (ns : List Label) (h : ℕ) → o ≡ of.Spawn u d ns h → IsAUnit ranks u h)
+    (is_unit ranks Fill tt refl) (is_unit ranks Read tt refl) (is_unit ranks Count tt refl) (is_unit ranks Total tt refl) k (of.Spawn u d ns q) e u d ns q refl
+came ranks u q (spawned p rank os i _ d ns _ c m e) = by_label ranks (λ p i o. (u : Label) (d : Option Label) (ns : List Label) (h : ℕ) → o ≡ of.Spawn u d ns h → IsAUnit ranks u h) (record {
+  left = is_unit ranks (Leaf false (leaf_value false)) refl refl;
+  right = is_unit ranks (Leaf true (leaf_value true)) refl refl;
+  sum = is_unit ranks Sum tt refl;
+  put = λ _ _ u d ns h e. absurd (cc);
+  leaf_gives = λ _ _ u d ns h e. absurd (cc);
+  clear = is_unit ranks Clear tt refl;
+  sum_gives = λ u d ns h e. absurd (cc);
+  erase = λ u d ns h e. absurd (cc);
+  read_gives = λ u d ns h e. absurd (cc);
+  count_gives = λ u d ns h e. absurd (cc);
+  total_gives = λ u d ns h e. absurd (cc);
+}) p os i (of.Spawn u d ns q) m e u d ns q refl
+
+-- what a label allows is the plan
+pub planned : (ranks : ℕ) (u : Label) (os : List Outline) → MayDo ranks u os → os ≡ plan ranks u
+planned ranks u os (unit, is, label, lists) = lists ∙ ap (outlines_of ranks) (sym (at_label unit is)) ∙ ap (plan ranks) label
+
+-- no label stands twice in these lists
+
+stands_in : Label → List Label → Bool
+stands_in u [] = false
+stands_in u (v ∷ us) = same_label v u || stands_in u us
+
+all_apart : List Label → Bool
+all_apart [] = true
+all_apart (u ∷ us) = not (stands_in u us) && all_apart us
+
+stands_found : (u : Label) (us : List Label) → Contains us u → stands_in u us ≡ true
+unfolding stands_in
+stands_found u [] (k, lt, e) = absurd (omega (arith, lt))
+stands_found u (v ∷ us) (zero, lt, e) = or_left (same_label v u) (stands_in u us) (subst (λ (z : Label). same_label v z ≡ true) e (same_label_refl v))
+stands_found u (v ∷ us) (suc k, lt, e) = or_right (same_label v u) (stands_in u us) (stands_found u us (k, omega (arith, lt), e))
+
+apart : (us : List Label) → all_apart us ≡ true → Apart us
+unfolding all_apart
+apart [] e = tt
+apart (u ∷ us) e =
+    let p = and_parts (not (stands_in u us)) (all_apart us) e in
+    ((λ h. both_ways (not (stands_in u us)) (ap not (stands_found u us h)) p.0), apart us p.1)
+
+first_apart : Apart first_units
+unfolding stands_in all_apart
+first_apart = apart first_units refl
+
+whole_apart : Apart all_units
+unfolding stands_in all_apart
+whole_apart = apart all_units refl
+
+-- what holds of each unit's label holds of those in the lists
+of_first : (P : Label → Type 0) → P (label_of Fill) → P (leaf_future false) → P (leaf_future true) → P (label_of Sum) → P (label_of Clear) → (u : Label) → Contains first_units u → P u
+of_first P a b c d e u (zero, lt, i) = subst P i a
+of_first P a b c d e u (suc zero, lt, i) = subst P i b
+of_first P a b c d e u (suc (suc zero), lt, i) = subst P i c
+of_first P a b c d e u (suc (suc (suc zero)), lt, i) = subst P i d
+of_first P a b c d e u (suc (suc (suc (suc zero))), lt, i) = subst P i e
+of_first P a b c d e u (suc (suc (suc (suc (suc k)))), lt, i) = absurd (omega (arith, lt))
+
+of_all : (P : Label → Type 0) → ((unit : Unit) → IsUnit unit → P (label_of unit)) → (u : Label) → Contains all_units u → P u
+of_all P h u (zero, lt, i) = subst P i (h Fill tt)
+of_all P h u (suc zero, lt, i) = subst P i (h (Leaf false (leaf_value false)) refl)
+of_all P h u (suc (suc zero), lt, i) = subst P i (h (Leaf true (leaf_value true)) refl)
+of_all P h u (suc (suc (suc zero)), lt, i) = subst P i (h Sum tt)
+of_all P h u (suc (suc (suc (suc zero))), lt, i) = subst P i (h Clear tt)
+of_all P h u (suc (suc (suc (suc (suc zero)))), lt, i) = subst P i (h Read tt)
+of_all P h u (suc (suc (suc (suc (suc (suc zero))))), lt, i) = subst P i (h Count tt)
+of_all P h u (suc (suc (suc (suc (suc (suc (suc zero)))))), lt, i) = subst P i (h Total tt)
+of_all P h u (suc (suc (suc (suc (suc (suc (suc (suc k))))))), lt, i) = absurd (omega (arith, lt))
+
+in_first : (unit : Unit) → (label_of unit).command ≡ 1 → Contains first_units (label_of unit)
+in_first Fill c = (0, omega arith, refl)
+in_first (Leaf false value) c = (1, omega arith, refl)
+in_first (Leaf true value) c = (2, omega arith, refl)
+in_first Sum c = (3, omega arith, refl)
+in_first Clear c = (4, omega arith, refl)
+in_first Read c = absurd (omega (arith, c))
+in_first Count c = absurd (omega (arith, c))
+in_first Total c = absurd (omega (arith, c))
+
+in_all : (unit : Unit) → Contains all_units (label_of unit)
+in_all Fill = (0, omega arith, refl)
+in_all (Leaf false value) = (1, omega arith, refl)
+in_all (Leaf true value) = (2, omega arith, refl)
+in_all Sum = (3, omega arith, refl)
+in_all Clear = (4, omega arith, refl)
+in_all Read = (5, omega arith, refl)
+in_all Count = (6, omega arith, refl)
+in_all Total = (7, omega arith, refl)
+
+-- the units of the first command
+abbrev pub OfFirst : Label → Type 0
+OfFirst u = u.command ≡ 1
+
+pub first_is_before : (ranks fence : ℕ) → 0 < fence → IsOfFence (MayDo ranks) stage fence OfFirst
+first_is_before ranks fence some = record {
+  before = λ u c. subst (λ (z : ℕ). fences_before z kinds < fence) (sym c) some;
+  spawner = λ p os i o u m e s c. sym (in_command ranks p os i o u m e s) ∙ c;
+}
+
+pub first_are_units : (ranks : ℕ) → AreUnits (program ranks) (MayDo ranks) OfFirst (plan ranks) (home ranks) first_units
+first_are_units ranks = record {
+  apart = first_apart;
+  all = λ u q c is. let k = came ranks u q c in (subst (Contains first_units) k.2 (in_first k.0 (ap (λ (l : Label). l.command) k.2 ∙ is)), k.3);
+  only = of_first (λ u. Comes (program ranks) (MayDo ranks) u (home ranks u) × OfFirst u) (comes ranks Fill, refl) (comes ranks (Leaf false (leaf_value false)), refl) (comes ranks (Leaf true (leaf_value true)), refl) (comes ranks Sum, refl) (comes ranks Clear, refl);
+  plans = λ u os is m. planned ranks u os m;
+}
+
+-- and of all commands before a fence
+abbrev pub OfFence : ℕ → Label → Type 0
+OfFence fence u = stage u < fence
+
+early_command : (unit : Unit) → stage (label_of unit) < 1 → (label_of unit).command ≡ 1
+early_command Fill c = refl
+early_command (Leaf false value) c = refl
+early_command (Leaf true value) c = refl
+early_command Sum c = refl
+early_command Clear c = refl
+early_command Read c = absurd (omega (arith, c))
+early_command Count c = absurd (omega (arith, c))
+early_command Total c = absurd (omega (arith, c))
+
+few_fences : (unit : Unit) (fence : ℕ) → stage (label_of unit) < suc (suc fence)
+few_fences Fill fence = omega arith
+few_fences (Leaf false value) fence = omega arith
+few_fences (Leaf true value) fence = omega arith
+few_fences Sum fence = omega arith
+few_fences Clear fence = omega arith
+few_fences Read fence = omega arith
+few_fences Count fence = omega arith
+few_fences Total fence = omega arith
+
+home_again : (ranks : ℕ) (unit : Unit) → IsUnit unit → home_of unit ranks ≡ home ranks (label_of unit)
+home_again ranks unit is = ap (λ (u : Unit). home_of u ranks) (sym (at_label unit is))
+
+pub units_are : (ranks fence : ℕ) → AreUnits (program ranks) (MayDo ranks) (OfFence fence) (plan ranks) (home ranks) (units_before fence)
+units_are ranks zero = record {
+  apart = tt;
+  all = λ u q c is. absurd (omega (arith, is));
+  only = λ u is. absurd (let lt = is.1 in omega (arith, lt));
+  plans = λ u os is m. planned ranks u os m;
+}
+units_are ranks (suc zero) = record {
+  apart = first_apart;
+  all = λ u q c is.
+      let k = came ranks u q c in
+      (subst (Contains first_units) k.2 (in_first k.0 (early_command k.0 (subst (λ (l : Label). stage l < 1) (sym k.2) is))), k.3);
+  only = of_first (λ u. Comes (program ranks) (MayDo ranks) u (home ranks u) × OfFence 1 u) (comes ranks Fill, omega arith) (comes ranks (Leaf false (leaf_value false)), omega arith) (comes ranks (Leaf true (leaf_value true)), omega arith) (comes ranks Sum, omega arith) (comes ranks Clear, omega arith);
+  plans = λ u os is m. planned ranks u os m;
+}
+units_are ranks (suc (suc fence)) = record {
+  apart = whole_apart;
+  all = λ u q c is. let k = came ranks u q c in (subst (Contains all_units) k.2 (in_all k.0), k.3);
+  only = of_all (λ u. Comes (program ranks) (MayDo ranks) u (home ranks u) × OfFence (suc (suc fence)) u)
+      (λ unit is. (subst (λ (q : ℕ). Comes (program ranks) (MayDo ranks) (label_of unit) q) (home_again ranks unit is) (comes ranks unit), few_fences unit fence));
+  plans = λ u os is m. planned ranks u os m;
+}
