@@ -1,0 +1,74 @@
+-- Books: what each lane of a run wrote, and which books are lawful.
+use Rattle.std.specs.Prelude.{◌≡◌, ◌⊎◌, ℕ, ◌<◌, ◌≤◌, true, false, if◌then◌else◌, List, [], ◌∷◌, reverse, length, All, AllPairs, Some, slice_get}
+use Rattle.app_core.specs.Commands.{IsRankCount}
+use Rattle.app_core.specs.declared.label.Label.{Label}
+use Rattle.app_core.specs.declared.outline.Outline.{Outline}
+use Rattle.event_lists.specs.declared.lane.LaneName.{LaneName}
+use Rattle.event_lists.specs.declared.event.Event.{Event}
+use Rattle.event_lists.specs.declared.event.Event.TheVariants.{Receipt as Receives}
+use Rattle.event_lists.specs.declared.kind.Kind.{Kind}
+use Rattle.event_lists.specs.declared.mark.Item.{Item}
+use Rattle.event_lists.specs.declared.mark.Mark.{Mark}
+use Rattle.event_lists.specs.Events.{same_lane, part, takes, number}
+use Rattle.event_lists.specs.Legal.{IsLane, Legal}
+use Rattle.event_laws.specs.Follows.{Plans, Doing, IsRun}
+
+-- a lane with its events, in order
+pub record PartData : Type 0 where
+  pub lane : LaneName
+  pub events : List Event
+
+-- the parts of all lanes, over so many ranks and workers
+pub record BookData : Type 0 where
+  pub ranks : ℕ
+  pub workers : ℕ
+  pub parts : List PartData
+
+-- the order of lanes in a book: hands before bins, each by rank and number
+abbrev pub IsBefore : LaneName → LaneName → Type 0
+IsBefore a b = ((a.bin ≡ false) × (b.bin ≡ true)) ⊎ ((a.bin ≡ b.bin) × ((a.rank < b.rank) ⊎ ((a.rank ≡ b.rank) × (a.number < b.number))))
+
+-- a receipt has one row for each rank
+abbrev pub HasRows : ℕ → Event → Type 0
+HasRows ranks e = (r : _) → e ≡ Receives r → length r.rows ≡ ranks
+
+-- what a book keeps
+pub record IsBook (b : BookData) : Type 0 where
+  pub ranks : IsRankCount b.ranks
+  pub workers : b.workers ≤ 4
+  pub named : All (λ p. IsLane b.ranks b.workers p.lane) b.parts
+  pub ordered : AllPairs (λ p q. IsBefore p.lane q.lane) b.parts
+  pub rows : All (λ p. All (HasRows b.ranks) p.events) b.parts
+
+-- the events of a lane in a book, in order: none where it isn't there
+abbrev pub events_of : LaneName → List PartData → List Event
+events_of l [] = []
+events_of l (p ∷ ps) = if same_lane p.lane l then p.events else events_of l ps
+
+-- the lane parts of a list are those of a book
+abbrev pub HasParts : List Mark → BookData → Type 0
+HasParts log b = (l : LaneName) → part l log ≡ reverse (events_of l b.parts)
+
+-- a book is lawful where a legal list has its lane parts
+abbrev pub IsLawful : BookData → Type 0
+IsLawful b = (log : List Mark) × Legal b.ranks b.workers log × HasParts log b
+
+-- and some such list follows an application
+abbrev pub BookFollows : List Doing → (Label → List Outline → Type 0) → BookData → Type 0
+BookFollows program may b = (log : List Mark) × (plans : Plans) × IsRun b.ranks b.workers program may plans log × HasParts log b
+
+-- the event stands in a book on this lane, with so many later ones there
+abbrev pub StandsIn : BookData → LaneName → ℕ → Event → Type 0
+StandsIn b l later e = slice_get (reverse (events_of l b.parts)) later ≡ Some e
+
+-- in a lawful book no two events take one message or task
+abbrev pub TakingsAreApart : Type 0
+TakingsAreApart =
+    (b : BookData) → IsLawful b → (l m : LaneName) (i j : ℕ) (d e : Event) (c : Item) → StandsIn b l i d → StandsIn b m j e
+    → takes d ≡ Some c → takes e ≡ Some c → (l ≡ m) × (i ≡ j)
+
+-- and no two events of one kind on lanes of one rank carry one number
+abbrev pub NumbersAreApart : Type 0
+NumbersAreApart =
+    (b : BookData) → IsLawful b → (l m : LaneName) (i j : ℕ) (d e : Event) (k : Kind) (n : ℕ) → StandsIn b l i d → StandsIn b m j e
+    → number k d ≡ Some n → number k e ≡ Some n → l.rank ≡ m.rank → (l ≡ m) × (i ≡ j)

@@ -1,0 +1,7 @@
+//! The indexed list beside the searched one, over small runs and a long one.
+mod alike;
+mod books;
+mod fences;
+mod long_run;
+mod offers;
+mod rounds;
