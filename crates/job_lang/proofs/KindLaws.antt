@@ -6,10 +6,10 @@ use Rattle.std.specs.Option.{option_map_or}
 use Rattle.tree_model.specs.Commands.{Command}
 use Rattle.job_lang.specs.declared.verb.Verb.{Verb}
 use Rattle.job_lang.specs.Checks.{has_numbers, has_room, has_trees, has_forms, is_near_fence}
-use Rattle.job_lang.specs.Grammar.{◌>>=◌, Words, Form, verb_of, form_of, command_of_form}
+use Rattle.job_lang.specs.Grammar.{◌>>=◌, Form, verb_of, form_of, command_of_form}
 use Rattle.job_lang.specs.Kinds.{verb_in, form_in, command_in, kind_answered, command_answered, lowest_kind}
-use Rattle.job_lang.specs.Lines.{words, is_passed_over}
-use Rattle.job_lang.specs.Reading.{is_allowed, byte_fault, command_fault, words_fault, limit_fault, tree_fault, form_fault, fence_fault, checked, read, checked_command, command_of_words, command_of_line}
+use Rattle.job_words.specs.Lines.{Words, words, is_allowed, is_passed_over}
+use Rattle.job_lang.specs.Reading.{byte_fault, command_fault, words_fault, limit_fault, tree_fault, form_fault, fence_fault, checked, read, checked_command, command_of_words, command_of_line}
 
 -- the lowest kind, from what the words say
 abbrev lowest : Bool → Option Verb → Option Form → Option Command → ℕ → List Command → Option ℕ

@@ -1,11 +1,8 @@
-pub mod Positions
-pub mod LineCuts
 pub mod CheckLaws
 pub mod WriterLaws
 pub mod HistoryLaws
 pub mod LimitLaws
 pub mod ReadLaws
-pub mod WordLaws
 pub mod CanonicalLaws
 pub mod PlanLaws
 pub mod KindLaws

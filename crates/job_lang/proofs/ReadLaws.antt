@@ -5,7 +5,8 @@ use Rattle.std.proofs.lemmas.Option.{cond_some}
 use Rattle.tree_model.specs.Commands.{Command}
 use Rattle.job_lang.specs.declared.verb.Verb.{Verb}
 use Rattle.job_lang.specs.Checks.{has_names, has_numbers, has_room, has_trees, has_forms, is_near_fence, is_accepted}
-use Rattle.job_lang.specs.Grammar.{◌>>=◌, Words, Form, verb_of, form_of, command_of_form}
+use Rattle.job_lang.specs.Grammar.{◌>>=◌, Form, verb_of, form_of, command_of_form}
+use Rattle.job_words.specs.Lines.{Words}
 use Rattle.job_lang.specs.Limits.{limited_command}
 use Rattle.job_lang.specs.Reading.{checked, checked_command, command_of_words, limit_fault, tree_fault, form_fault, fence_fault}
 

@@ -18,7 +18,7 @@ use Rattle.job_lang.specs.Checks.{written_name, written_form, form_after, form_b
 use Rattle.job_lang.specs.Versions.{version_from, version_behind}
 use Rattle.job_lang.specs.Writers.{command_at, told_at, form_at, with_writer, AreLastWriters}
 use Rattle.job_lang.proofs.CheckLaws.{trees_behind-append}
-use Rattle.job_lang.proofs.Positions.{position-None}
+use Rattle.job_words.proofs.Positions.{position-None}
 
 same_name : (a b : List ℕ) → bytes_eq a b ≡ true → a ≡ b
 same_name a b is = (bytes_eq-Decides a b).0 is

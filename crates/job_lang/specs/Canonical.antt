@@ -7,7 +7,7 @@ use Rattle.tree_model.specs.Functions.Function.{Const, Ramp, Step, Box, Hash}
 use Rattle.tree_model.specs.Commands.{Command}
 use Rattle.tree_model.specs.Commands.Command.{Project, Refine, Compress, Reconstruct, Add, Mul, Inner, Print, Fence}
 use Rattle.tree_model.specs.Jobs.{JobData}
-use Rattle.job_lang.specs.Grammar.{Words}
+use Rattle.job_words.specs.Lines.{Words, line_of}
 
 -- the words of a function and of a command
 abbrev pub function_words : Function → Words
@@ -31,16 +31,6 @@ command_words Fence = codes "fence" ∷ []
 
 abbrev pub header_words : ℕ → Words
 header_words depth = codes "job" ∷ codes "1" ∷ codes "depth" ∷ decimal depth ∷ []
-
--- words, each behind a space
-abbrev pub spaced : Words → List ℕ
-spaced [] = []
-spaced (word ∷ rest) = 32 ∷ word ++ spaced rest
-
--- the words of a line with single spaces between them
-abbrev pub line_of : Words → List ℕ
-line_of [] = []
-line_of (word ∷ rest) = word ++ spaced rest
 
 abbrev pub command_text : Command → List ℕ
 command_text c = line_of (command_words c) ++ codes "\n"

@@ -10,7 +10,7 @@ use Rattle.tree_model.specs.Jobs.{JobData}
 use Rattle.tree_model.specs.Nodes.{Form}
 use Rattle.tree_model.specs.Nodes.Form.{Reconstructed, Compressed}
 use Rattle.tree_model.specs.Versions.{same_form}
-use Rattle.job_lang.specs.Names.{is_name}
+use Rattle.job_words.specs.Names.{is_name}
 
 -- the most commands, trees and `print`s of a job, and the most commands before a fence
 abbrev pub max_commands : ℕ

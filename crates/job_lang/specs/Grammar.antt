@@ -7,15 +7,13 @@ use Rattle.tree_model.specs.Functions.{Function, max_depth}
 use Rattle.tree_model.specs.Functions.Function.{Const as ConstFunction, Ramp as RampFunction, Step as StepFunction, Box as BoxFunction, Hash as HashFunction}
 use Rattle.tree_model.specs.Commands.{Command}
 use Rattle.tree_model.specs.Commands.Command.{Project as ProjectCommand, Refine as RefineCommand, Compress as CompressCommand, Reconstruct as ReconstructCommand, Add as AddCommand, Mul as MulCommand, Inner as InnerCommand, Print as PrintCommand, Fence as FenceCommand}
-use Rattle.job_lang.specs.Numbers.{number}
-use Rattle.job_lang.specs.Names.{is_name}
+use Rattle.job_words.specs.Lines.{Words}
+use Rattle.job_words.specs.Names.{is_name}
+use Rattle.job_words.specs.Numbers.{number}
 use Rattle.job_lang.specs.declared.function_form.FunctionForm.{FunctionForm}
 use Rattle.job_lang.specs.declared.function_form.FunctionForm.TheVariants.{Const, Ramp, Step, Box, Hash}
 use Rattle.job_lang.specs.declared.verb.Verb.{Verb}
 use Rattle.job_lang.specs.declared.verb.Verb.TheVariants.{Project, Refine, Compress, Reconstruct, Add, Mul, Inner, Print, Fence}
-
-abbrev pub Words : Type 0
-Words = List (List ℕ)
 
 infixl 10 ◌>>=◌
 abbrev pub ◌>>=◌ : {A B : Type 0} → Option A → (A → Option B) → Option B

@@ -6,9 +6,9 @@ use Rattle.std.specs.Option.{option_map_or}
 use Rattle.tree_model.specs.Commands.{Command}
 use Rattle.job_lang.specs.declared.verb.Verb.{Verb}
 use Rattle.job_lang.specs.Checks.{has_numbers, has_room, has_trees, has_forms, is_near_fence}
-use Rattle.job_lang.specs.Grammar.{◌>>=◌, Words, Form, verb_of, form_of, command_of_form}
-use Rattle.job_lang.specs.Lines.{words, is_passed_over}
-use Rattle.job_lang.specs.Reading.{is_allowed, byte_fault, command_fault, words_fault, limit_fault, tree_fault, form_fault, fence_fault, command_of_line}
+use Rattle.job_lang.specs.Grammar.{◌>>=◌, Form, verb_of, form_of, command_of_form}
+use Rattle.job_words.specs.Lines.{Words, words, is_allowed, is_passed_over}
+use Rattle.job_lang.specs.Reading.{byte_fault, command_fault, words_fault, limit_fault, tree_fault, form_fault, fence_fault, command_of_line}
 
 -- the verb, the form and the command that words say, where they say one
 abbrev pub verb_in : Words → Option Verb

@@ -1,12 +1,12 @@
 -- The job that a list of bytes is, or its fault: the lowest kind that the first line with one has.
-use Rattle.std.specs.Prelude.{ℕ, ◌+◌, ◌==◌, ◌&&◌, ◌||◌, nat_le, Bool, List, [], ◌∷◌, ◌++◌, Option, Some, None, Result, Ok, Err, if◌then◌else◌}
+use Rattle.std.specs.Prelude.{ℕ, ◌+◌, ◌&&◌, Bool, List, [], ◌∷◌, ◌++◌, Option, Some, None, Result, Ok, Err, if◌then◌else◌}
 use Rattle.std.specs.List.{list_all}
 use Rattle.std.specs.Str.Lines.{lines}
 use Rattle.tree_model.specs.Commands.{Command}
 use Rattle.tree_model.specs.Jobs.{JobData}
 use Rattle.job_lang.specs.declared.fault.JobFault.{JobFault}
-use Rattle.job_lang.specs.Lines.{words, is_passed_over}
-use Rattle.job_lang.specs.Grammar.{Words, header_of, verb_of, form_of, command_of_form}
+use Rattle.job_words.specs.Lines.{Words, words, is_allowed, is_passed_over}
+use Rattle.job_lang.specs.Grammar.{header_of, verb_of, form_of, command_of_form}
 use Rattle.job_lang.specs.Checks.{has_numbers, has_room, has_trees, has_forms, is_near_fence}
 
 -- the kinds of fault: a byte outside ASCII, no header, an unknown command, words that aren't in its form, a limit, a tree
@@ -34,10 +34,6 @@ form_fault = 7
 
 abbrev pub fence_fault : ℕ
 fence_fault = 8
-
--- a tab, or a byte from 32 to 126
-abbrev pub is_allowed : ℕ → Bool
-is_allowed byte = (byte == 9) || (nat_le 32 byte && nat_le byte 126)
 
 -- what comes where a check holds, and else the kind of fault
 abbrev pub checked : {A : Type 0} → ℕ → Bool → Result A ℕ → Result A ℕ

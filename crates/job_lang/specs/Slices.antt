@@ -3,8 +3,8 @@ use Rattle.std.specs.Prelude.{ℕ, List, map, Option}
 use Rattle.std.specs.Borrow.{Bor}
 use Rattle.std.specs.Option.{option_map}
 use Rattle.job_lang.specs.declared.function_form.FunctionForm.{FunctionForm}
-use Rattle.job_lang.specs.declared.names.Name.{Name}
-use Rattle.job_lang.specs.Grammar.{Words}
+use Rattle.job_words.specs.declared.Name.{Name}
+use Rattle.job_words.specs.Lines.{Words}
 
 abbrev pub Slices : Type 0
 Slices = Bor (List (Bor (List ℕ)))

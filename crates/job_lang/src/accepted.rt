@@ -2,7 +2,7 @@ ghost use Rattle.std.specs.Prelude.{◌≡◌, ℕ, List, [], ◌∷◌, ◌++�
 ghost use Rattle.tree_model.specs.Functions.{max_depth};
 ghost use Rattle.job_lang.specs.declared.fault.JobFault.{JobFault as FaultData};
 ghost use Rattle.job_lang.specs.Checks.{has_names, is_accepted};
-ghost use Rattle.job_lang.specs.Lines.{words as line_words};
+ghost use Rattle.job_words.specs.Lines.{words as line_words};
 ghost use Rattle.job_lang.specs.Reading.{checked_command, command_of_line, command_of_words, commands_from};
 ghost use Rattle.job_lang.specs.Slices.{texts};
 
@@ -11,9 +11,9 @@ use crate::fault::{BYTE_FAULT, COMMAND_FAULT, JobFault, LIMIT_FAULT, WORDS_FAULT
 use crate::form::Form;
 use crate::history::History;
 use crate::job::Job;
-use crate::lines::{has_allowed_bytes, is_passed_over, words_of};
 use crate::parse_error::ParseError;
 use crate::verb::Verb;
+use job_words::{has_allowed_bytes, is_passed_over, words_of};
 use std::alloc::{AllocError, Global};
 use std::marker::Model;
 

@@ -2,7 +2,8 @@
 ghost use Rattle.std.specs.Prelude.{◌≡◌, ◌++◌, ◌∷◌, [], codes, decimal, IfOk, OnOk};
 ghost use Rattle.std.specs.Fmt.{signed_decimal};
 ghost use Rattle.haar_node.specs.Func.{function_of};
-ghost use Rattle.job_lang.specs.Canonical.{canonical_text, command_text, command_words, function_words, header_words, line_of, spaced};
+ghost use Rattle.job_lang.specs.Canonical.{canonical_text, command_text, command_words, function_words, header_words};
+ghost use Rattle.job_words.specs.Lines.{line_of, spaced};
 ghost use Rattle.job_lang.specs.Data.{data_of};
 ghost use Rattle.job_lang.specs.Reading.{reading_of};
 ghost use Rattle.tree_model.specs.Commands.Command.{Add, Mul, Project};

@@ -4,10 +4,10 @@ ghost use Rattle.tree_model.specs.Commands.{writes};
 ghost use Rattle.job_lang.specs.Checks.{has_names, has_numbers, is_factor, is_fence, is_print, is_within_limits, names_read, needed_form, written_form, written_name};
 ghost use Rattle.job_lang.specs.Reads.{names_of};
 
-use crate::names::is_name;
 use crate::reads::Reads;
 use crate::tree_form::TreeForm;
 use haar_node::Func;
+use job_words::is_name;
 use tree_key::Text;
 
 /// A command of a job.

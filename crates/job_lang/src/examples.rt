@@ -1,11 +1,9 @@
 //! The reading of bytes, computed on small texts. What is expected was worked out by hand.
-ghost use Rattle.std.specs.Prelude.{◌≡◌, true, false, [], ◌∷◌, ◌++◌, Some, None, Ok, Err, codes, pos, negsuc};
+ghost use Rattle.std.specs.Prelude.{◌≡◌, [], ◌∷◌, ◌++◌, Some, None, Ok, Err, codes, pos, negsuc};
 ghost use Rattle.tree_model.specs.Functions.Function.{Const, Hash, Ramp};
 ghost use Rattle.tree_model.specs.Commands.Command.{Add, Compress, Fence, Inner, Mul, Print, Project, Reconstruct, Refine};
 ghost use Rattle.job_lang.specs.Canonical.{canonical_text};
 ghost use Rattle.job_lang.specs.Faults.{fault_line};
-ghost use Rattle.job_lang.specs.Names.{is_name};
-ghost use Rattle.job_lang.specs.Numbers.{number};
 ghost use Rattle.job_lang.specs.Reading.{reading_of};
 ghost use Rattle.job_lang.specs.Versions.{plan_of};
 ghost use Rattle.job_lang.specs.declared.sources.Sources.TheVariants.{Nothing, One, Two};
@@ -24,26 +22,6 @@ pub fn projects_and_prints()
 /// Lines that are passed over keep their numbers, and a line may end with a carriage return.
 pub fn unknown_tree()
     ensures { reading_of (codes "job 1\tdepth 02\r\n\n # a\nprint f") ≡ Err (record { line = 4; kind = 6 }) }
-{}
-
-/// A number has 1 to 18 digits, and one minus may stand before them.
-pub fn whole_numbers()
-    ensures zero { number (codes "-0") ≡ Some (pos 0) }
-    ensures leading_zeros { number (codes "007") ≡ Some (pos 7) }
-    ensures most_digits { number (codes "999999999999999999") ≡ Some (pos 999999999999999999) }
-    ensures least { number (codes "-999999999999999999") ≡ Some (negsuc 999999999999999998) }
-    ensures too_many_digits { number (codes "0000000000000000001") ≡ None }
-    ensures no_digit { number (codes "-") ≡ None }
-    ensures two_minuses { number (codes "--1") ≡ None }
-    ensures plus { number (codes "+1") ≡ None }
-{}
-
-/// A name begins with a letter and has at most 16 bytes.
-pub fn names()
-    ensures longest { is_name (codes "abcdefghijklm_09") ≡ true }
-    ensures too_long { is_name (codes "abcdefghijklm_090") ≡ false }
-    ensures digit_first { is_name (codes "0a") ≡ false }
-    ensures capital { is_name (codes "aB") ≡ false }
 {}
 
 /// The header may be the only line; its depth is at most 16.

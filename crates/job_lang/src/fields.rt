@@ -4,8 +4,7 @@ ghost use Rattle.job_lang.specs.Grammar.{box_at, const_at, function_at, hash_at,
 ghost use Rattle.job_lang.specs.Slices.{function_read, name_only, name_read, names_only, number_read, rest_read, texts};
 
 use crate::function_form::FunctionForm;
-use crate::names::Name;
-use crate::numbers::number_of;
+use job_words::{Name, number_of};
 
 /// The words behind this very word.
 pub fn keyword<'a, 'b>(text: &[u8], words: &'b [&'a [u8]]) -> Option<&'b [&'a [u8]]>

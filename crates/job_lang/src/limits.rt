@@ -11,8 +11,8 @@ ghost use Rattle.job_lang.specs.Limits.{limited_command, limited_projection};
 use crate::command::{Command, is_factor};
 use crate::form::Form;
 use crate::function_form::{FunctionForm, size_up_to};
-use crate::names::Name;
 use haar_node::Func;
+use job_words::Name;
 use std::alloc::{AllocError, Global};
 
 const MAX_TOLERANCE: u64 = 1 << 25;

@@ -2,7 +2,7 @@ ghost use Rattle.std.specs.Prelude.{◌≡◌, ◌+◌, ◌<◌, ◌≤◌, ◌^
 ghost use Rattle.std.specs.Str.Lines.{lines};
 ghost use Rattle.tree_model.specs.Functions.{max_depth};
 ghost use Rattle.job_lang.specs.declared.fault.JobFault.{JobFault as FaultData};
-ghost use Rattle.job_lang.specs.Lines.{words as line_words};
+ghost use Rattle.job_words.specs.Lines.{words as line_words};
 ghost use Rattle.job_lang.specs.Reading.{header_from, commands_from, depth_of_line, reading_of};
 ghost use Rattle.job_lang.specs.Slices.{texts};
 
@@ -10,8 +10,8 @@ use crate::accepted::Accepted;
 use crate::fault::{BYTE_FAULT, HEADER_FAULT, JobFault};
 use crate::form::header_of;
 use crate::job::Job;
-use crate::lines::{has_allowed_bytes, is_passed_over, next_line, words_of};
 use crate::parse_error::ParseError;
+use job_words::{has_allowed_bytes, is_passed_over, next_line, words_of};
 use std::alloc::Global;
 
 /// What the header tells, and the text behind it.

@@ -1,6 +1,6 @@
 use Rattle.std.proofs.Common.{◌≡◌, ℕ, List, [], ◌∷◌, ◌++◌, subst, append_assoc, append-nil}
 use Rattle.std.specs.Prelude.{codes, decimal, OnOk}
-use Rattle.job_lang.specs.Canonical.{line_of}
+use Rattle.job_words.specs.Lines.{line_of}
 use Rattle.job_lang.proofs.canonical.add_header_words.Goals as goal
 
 pieces : (old a b c d : List ℕ) → ((old ++ line_of (a ∷ b ∷ [])) ++ 32 ∷ c) ++ 32 ∷ d ≡ old ++ line_of (a ∷ b ∷ c ∷ d ∷ [])

@@ -11,12 +11,10 @@ use Rattle.std.proofs.lemmas.Bool.Decides.{nat_tests}
 use Rattle.std.proofs.lemmas.Fmt.{decimal_by_steps, decimal_is_IsNumeral, decimal_nonempty, length-decimal-le}
 use Rattle.std.proofs.lemmas.List.Folds.{list_all-append}
 use Rattle.std.proofs.lemmas.List.Splits.{slice_split_at, slice_split_none, length-slice_split}
-use Rattle.job_lang.specs.Canonical.{spaced, line_of}
-use Rattle.job_lang.specs.Grammar.{Words}
-use Rattle.job_lang.specs.Lines.{is_blank, words}
-use Rattle.job_lang.specs.Names.{is_name, is_letter, is_name_byte}
-use Rattle.job_lang.specs.Numbers.{is_digit, are_digits, size_of_digits, number, signed}
-use Rattle.job_lang.specs.Reading.{is_allowed}
+use Rattle.job_words.specs.Lines.{Words, is_allowed, is_blank, line_of, spaced, words}
+use Rattle.job_words.specs.Names.{is_name, is_letter, is_name_byte}
+use Rattle.job_words.specs.Numbers.{is_digit, are_digits, size_of_digits, number, signed}
+use Rattle.job_words.proofs.LineCuts.{one_more}
 
 -- a byte that prints and is no space, and one that may be a space
 abbrev is_graphic : ℕ → Bool
@@ -115,10 +113,6 @@ last_byte (x ∷ xs) (suc k) all = last_byte xs k (and_parts (is_printable x) (l
 
 not_stripped : (xs : List ℕ) → list_all is_printable xs ≡ true → strip_carriage_return xs ≡ xs
 not_stripped xs all = rw (last_byte xs (length xs - 1) all) refl
-
-one_more : (x : List ℕ) (parts : List (List ℕ)) → 0 < length parts → lines_of_parts (x ∷ parts) ≡ strip_carriage_return x ∷ lines_of_parts parts
-one_more x [] some = absurd (omega arith)
-one_more x (y ∷ more) some = refl
 
 pub lines-line : (line rest : List ℕ) → list_all is_printable line ≡ true → lines (line ++ 10 ∷ rest) ≡ line ∷ lines rest
 lines-line line rest all =

@@ -1,5 +1,5 @@
 use Rattle.std.proofs.Common.{refl}
-use Rattle.job_lang.proofs.examples.whole_numbers.Goals as goal
+use Rattle.job_words.proofs.examples.whole_numbers.Goals as goal
 
 pub returns-clause-zero : goal.returns-clause-zero
 returns-clause-zero c = refl

@@ -1,7 +1,7 @@
 -- Names of trees: a lower-case letter, and then lower-case letters, digits and `_`; 1 to 16 bytes in all.
 use Rattle.std.specs.Prelude.{ℕ, ◌==◌, ◌&&◌, ◌||◌, nat_le, Bool, List, length, slice_index}
 use Rattle.std.specs.List.{list_all}
-use Rattle.job_lang.specs.Numbers.{is_digit}
+use Rattle.job_words.specs.Numbers.{is_digit}
 
 abbrev pub is_letter : ℕ → Bool
 is_letter byte = nat_le 97 byte && nat_le byte 122

@@ -2,8 +2,8 @@ use Rattle.std.proofs.Common.{length, rules, tests}
 use Rattle.std.specs.Prelude.{nat_lt}
 use Rattle.std.proofs.lemmas.Iterator.Splits.{YieldsList-from_slice_split}
 use Rattle.std.proofs.lemmas.Iterator.Consumers.{map_from_collect, YieldsList-from_filter}
-use Rattle.job_lang.specs.Lines.{is_blank}
-use Rattle.job_lang.proofs.lines.words_of.Goals as goal
+use Rattle.job_words.specs.Lines.{is_blank}
+use Rattle.job_words.proofs.lines.words_of.Goals as goal
 
 pub returns : goal.returns
 returns c =

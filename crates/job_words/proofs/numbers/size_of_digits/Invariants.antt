@@ -1,8 +1,8 @@
 use Rattle.std.proofs.Common.{◌≡◌, ◌<◌, ◌^◌, drop}
 use Rattle.std.specs.List.{list_all}
 use Rattle.std.specs.Str.Parse.{digits_value, digits_value_after}
-use Rattle.job_lang.specs.Numbers.{is_digit}
-use Rattle.job_lang.proofs.numbers.size_of_digits.Given as goal
+use Rattle.job_words.specs.Numbers.{is_digit}
+use Rattle.job_words.proofs.numbers.size_of_digits.Given as goal
 
 abbrev pub invariant-loop-byte : goal.invariant-loop-byte
 invariant-loop-byte l = record {

@@ -1,5 +1,5 @@
 use Rattle.std.proofs.Common.{refl}
-use Rattle.job_lang.proofs.examples.names.Goals as goal
+use Rattle.job_words.proofs.examples.names.Goals as goal
 
 pub returns-clause-longest : goal.returns-clause-longest
 returns-clause-longest c = refl

@@ -1,8 +1,7 @@
 ghost use Rattle.std.specs.Prelude.{◌≡◌, ◌∷◌, [], ◌<◌, ◌==◌, IfOk, MatchOption, IfSome, length, map, position};
 ghost use Rattle.std.specs.Str.Lines.{lines, strip_carriage_return};
 ghost use Rattle.std.specs.List.{list_all};
-ghost use Rattle.job_lang.specs.Lines.{words, is_passed_over};
-ghost use Rattle.job_lang.specs.Reading.{is_allowed};
+ghost use Rattle.job_words.specs.Lines.{words, is_allowed, is_passed_over};
 
 use std::alloc::{AllocError, Global};
 

@@ -1,8 +1,8 @@
 use Rattle.std.proofs.Common.{◌≡◌, ◌-◌, ◌+◌, length, take, drop, arith, rules, List, ℕ, length-drop}
 use Rattle.std.proofs.lemmas.List.{drop_all, take_all}
 use Rattle.std.proofs.lemmas.Grind.{common_steps}
-use Rattle.job_lang.proofs.LineCuts.{line_at, last_line}
-use Rattle.job_lang.proofs.lines.next_line.Goals as goal
+use Rattle.job_words.proofs.LineCuts.{line_at, last_line}
+use Rattle.job_words.proofs.lines.next_line.Goals as goal
 
 -- a slice from a place on is what is left there
 from_there : (text : List ℕ) (at : ℕ) → take (length text - at) (drop at text) ≡ drop at text

@@ -1,7 +1,7 @@
 ghost use Rattle.std.specs.Prelude.{◌≡◌, true, slice_index, if◌then◌else◌, IfOk};
 ghost use Rattle.std.specs.Option.{option_map};
 ghost use Rattle.std.specs.List.{list_all};
-ghost use Rattle.job_lang.specs.Names.{is_letter, is_name_byte, is_name};
+ghost use Rattle.job_words.specs.Names.{is_letter, is_name_byte, is_name};
 
 use std::alloc::{AllocError, Global};
 use tree_key::Text;

@@ -1,6 +1,6 @@
 use Rattle.std.proofs.Common.{ℕ, ◌<◌, ◌≤◌, ◌^◌, arith, lit<}
 use Rattle.std.proofs.Math.Nat.{pow-le-pow_right}
-use Rattle.job_lang.proofs.numbers.size_of_digits.Goals as goal
+use Rattle.job_words.proofs.numbers.size_of_digits.Goals as goal
 
 -- i digits write less than 10 ^ j, where i is at most j
 below : (i j v : ℕ) → i ≤ j → v < 10 ^ i → v < 10 ^ j

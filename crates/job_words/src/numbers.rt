@@ -1,5 +1,5 @@
 ghost use Rattle.std.specs.Prelude.{◌≡◌, ◌<◌, ◌^◌, IfSome};
-ghost use Rattle.job_lang.specs.Numbers.{size_of_digits, number, signed};
+ghost use Rattle.job_words.specs.Numbers.{size_of_digits, number, signed};
 
 const MAX_DIGITS: usize = 18;
 

@@ -1,7 +1,10 @@
 -- Lines and words of a job's text. Its lines are std's `lines`: each ends with a line feed, and one carriage return right
 -- before it belongs to its end; what follows the last line feed is a line too, if it isn't empty.
-use Rattle.std.specs.Prelude.{ℕ, ◌==◌, ◌||◌, nat_lt, Bool, true, List, [], ◌∷◌, length, filter, slice_index}
+use Rattle.std.specs.Prelude.{ℕ, ◌==◌, ◌&&◌, ◌||◌, nat_le, nat_lt, Bool, true, List, [], ◌∷◌, ◌++◌, length, filter, slice_index}
 use Rattle.std.specs.List.{slice_split}
+
+abbrev pub Words : Type 0
+Words = List (List ℕ)
 
 -- a space or a tab
 abbrev pub is_blank : ℕ → Bool
@@ -15,3 +18,17 @@ words line = filter (λ word. nat_lt 0 (length word)) (slice_split is_blank line
 abbrev pub is_passed_over : List (List ℕ) → Bool
 is_passed_over [] = true
 is_passed_over (word ∷ rest) = slice_index word 0 == 35
+
+-- a tab, or a byte from 32 to 126
+abbrev pub is_allowed : ℕ → Bool
+is_allowed byte = (byte == 9) || (nat_le 32 byte && nat_le byte 126)
+
+-- words, each behind a space
+abbrev pub spaced : Words → List ℕ
+spaced [] = []
+spaced (word ∷ rest) = 32 ∷ word ++ spaced rest
+
+-- the words of a line with single spaces between them
+abbrev pub line_of : Words → List ℕ
+line_of [] = []
+line_of (word ∷ rest) = word ++ spaced rest
