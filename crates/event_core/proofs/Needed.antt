@@ -13,7 +13,7 @@ use Rattle.event_lists.specs.declared.event.Event.TheVariants.{Submitted}
 use Rattle.event_lists.specs.declared.future.Bringer.{Bringer}
 use Rattle.event_lists.specs.declared.future.Future.{Future}
 use Rattle.event_lists.specs.declared.mark.Item.{Item}
-use Rattle.event_lists.specs.declared.mark.Item.TheVariants.{Message, Task, Effect}
+use Rattle.event_lists.specs.declared.mark.Item.TheVariants.{Message, Task}
 use Rattle.event_lists.specs.declared.mark.Mark.{Mark}
 use Rattle.event_lists.specs.Events.{part, in_hand}
 use Rattle.event_lists.specs.Futures.{bringer, is_bringer, spawned_needs, own_due, was_needed}
@@ -65,7 +65,6 @@ free_needs b log l mine (Submitted n t) dues by = go (in_hand mine) dues by
     go None s by = record { free = subst (λ (c : Bringer). NeedsAreFree (own_due None log) (Some c) log t.needs) (sym (same_bringer_true b _ by)) s.2; distinct = apart_distinct t.needs s.1 }
     go (Some (Task r m)) s by = record { free = subst (λ (c : Bringer). NeedsAreFree (own_due (Some (Task r m)) log) (Some c) log t.needs) (sym (same_bringer_true b _ by)) s.2; distinct = apart_distinct t.needs s.1 }
     go (Some (Message r m)) s by = absurd (cc)
-    go (Some (Effect r m i)) s by = absurd (cc)
 free_needs b log l mine _ dues by = record { free = tt; distinct = tt }
 
 -- no label stands twice among those that the spawns of a bringer needed

@@ -19,7 +19,7 @@ use Rattle.event_lists.specs.declared.future.Bringer.{Bringer}
 use Rattle.event_lists.specs.declared.future.Bringer.TheVariants.{Task as task_of, Main as main_at}
 use Rattle.event_lists.specs.declared.future.Future.{Future}
 use Rattle.event_lists.specs.declared.mark.Item.{Item}
-use Rattle.event_lists.specs.declared.mark.Item.TheVariants.{Message, Task, Effect}
+use Rattle.event_lists.specs.declared.mark.Item.TheVariants.{Message, Task}
 use Rattle.event_lists.specs.declared.mark.Mark.{Mark}
 use Rattle.event_lists.specs.Events.{Begins, part, in_hand, IsSubmitted}
 use Rattle.event_lists.specs.Futures.{bringer, is_own, own_due, spawned_due}
@@ -62,7 +62,6 @@ naming_spawns r h b (Sent n to (Spawned u d)) l i c = (u, refl)
 naming_spawns r None b (Submitted n t) l i c = (t.unit, refl)
 naming_spawns r (Some (Message q m)) b (Submitted n t) l i c = absurd (cc)
 naming_spawns r (Some (Task q m)) b (Submitted n t) l i c = (t.unit, refl)
-naming_spawns r (Some (Effect q m j)) b (Submitted n t) l i c = absurd (cc)
 naming_spawns r h b (Sent n to (Give f)) l i c = absurd (none_in l c)
 naming_spawns r h b e l i c = absurd (none_in l c)
 

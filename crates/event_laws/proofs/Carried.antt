@@ -10,7 +10,7 @@ use Rattle.event_lists.specs.declared.event.Event.{Event}
 use Rattle.event_lists.specs.declared.event.Event.TheVariants.{Sent, Submitted, Ran, Gave, Put, Erased, Enter}
 use Rattle.event_lists.specs.declared.mark.EffectName.{EffectName}
 use Rattle.event_lists.specs.declared.mark.Item.{Item}
-use Rattle.event_lists.specs.declared.mark.Item.TheVariants.{Message, Task, Effect}
+use Rattle.event_lists.specs.declared.mark.Item.TheVariants.{Message, Task}
 use Rattle.event_lists.specs.declared.mark.Mark.{Mark}
 use Rattle.event_lists.specs.Events.{Begins, StandsOn, part, in_hand}
 use Rattle.event_lists.proofs.Lists.{begins_refl, begins_more}
@@ -46,7 +46,6 @@ module _ (program : List Doing) (plans : Plans) (x : Mark) (before : List Mark) 
   acting mine None a = absurd (no_effect a.3)
   acting mine (Some (Message q m)) a = absurd (no_effect a)
   acting mine (Some (Task q m)) a = same_effect q m a.0 a.1
-  acting mine (Some (Effect q m j)) a = absurd a
 
   -- an event that names an effect carries it out
   pub carries : (mine : List Event) (e : Event) → Goes program plans before x mine e → CarriesOut plans before x r n i

@@ -11,7 +11,7 @@ use Rattle.event_lists.specs.declared.event.Event.TheVariants.{Sent, Submitted, 
 use Rattle.event_lists.specs.declared.event.Parcel.TheVariants.{Unit as Spawned, Give}
 use Rattle.event_lists.specs.declared.event.TaskName.{TaskName}
 use Rattle.event_lists.specs.declared.mark.Item.{Item}
-use Rattle.event_lists.specs.declared.mark.Item.TheVariants.{Message, Task, Effect}
+use Rattle.event_lists.specs.declared.mark.Item.TheVariants.{Message, Task}
 use Rattle.event_lists.specs.declared.mark.Mark.{Mark}
 use Rattle.event_lists.specs.Events.{part, main_of, in_hand, Begins, StandsOn, IsSubmitted}
 use Rattle.event_lists.specs.Counting.{Counting, MaySpawn, MaySubmit}
@@ -117,7 +117,6 @@ module _ (ranks workers : ℕ) (program : List Doing) (may : Label → List Outl
       spawns None hand m d a unit rec = of_main m hand d a.0 a.1 a.2 unit
       spawns (Some (Task q n)) hand m d a unit rec = of_task q n a.0 a.1 unit rec
       spawns (Some (Message q n)) hand m d a unit rec = absurd m
-      spawns (Some (Effect q n j)) hand m d a unit rec = absurd m
 
       submits : (k : ℕ) (t : TaskName) → y.event ≡ Submitted k t → (h : Option Item) → in_hand (part y.lane old) ≡ h → MaySubmit y.lane h → SubmitsFreely h y.lane old (part y.lane old) t
           → Acts program plans old y (part y.lane old) h → unit_in y.event ≡ Some u → Has old → P u (rank_to y.lane.rank y.event)
@@ -131,7 +130,6 @@ module _ (ranks workers : ℕ) (program : List Doing) (may : Label → List Outl
           let rank : f.0.0 ≡ y.lane.rank = (same_sent ranks workers old now.1 q n f.0.0 y.lane.rank (Spawned t.unit t.due) there.0 s there.1).0 in
           let here : rank_to y.lane.rank y.event ≡ y.lane.rank = ap (rank_to y.lane.rank) e in
           subst (λ (z : ℕ). P u z) (rank ∙ sym here) (subst (λ (z : Label). P z f.0.0) same (rec s.0 (Sent n f.0.0 (Spawned t.unit t.due)) t.unit s.2 refl))
-      submits k t e (Some (Effect q n j)) hand m f a unit rec = absurd m
 
       by_event : (e : Event) → y.event ≡ e → Goes program plans old y (part y.lane old) e → Counting ranks old y.lane (part y.lane old) e → Dues old y.lane (part y.lane old) e → unit_in e ≡ Some u → Has old → P u (rank_to y.lane.rank y.event)
       by_event (Sent k q p) e g a d unit rec = spawns (in_hand (part y.lane old)) refl a.1 (ap (is_done None) e) g (ap unit_in e ∙ unit) rec

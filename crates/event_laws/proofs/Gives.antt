@@ -9,7 +9,7 @@ use Rattle.event_lists.specs.declared.event.Event.TheVariants.{Sent, Gave}
 use Rattle.event_lists.specs.declared.event.Parcel.TheVariants.{Give}
 use Rattle.event_lists.specs.declared.future.Future.{Future}
 use Rattle.event_lists.specs.declared.mark.Item.{Item}
-use Rattle.event_lists.specs.declared.mark.Item.TheVariants.{Message, Task, Effect}
+use Rattle.event_lists.specs.declared.mark.Item.TheVariants.{Message, Task}
 use Rattle.event_lists.specs.declared.mark.Mark.{Mark}
 use Rattle.event_lists.specs.Events.{Begins, part, in_hand}
 use Rattle.event_lists.specs.Futures.{is_future, own_due, gives, times_given}
@@ -65,7 +65,6 @@ module _ (ranks workers : ℕ) (program : List Doing) (may : Label → List Outl
       from : (h : Option Item) → KeepsDue h d before (part x.lane before) → Acts program plans before x (part x.lane before) h → GivenBy plans (x ∷ before) d
       from None keeps a = absurd keeps
       from (Some (Message r n)) keeps a = absurd keeps
-      from (Some (Effect r n i)) keeps a = absurd keeps
       from (Some (Task r n)) keeps (i, c) = let g = give r n i c is in record { x = x; before = before; begins = begins_refl (x ∷ before); r = r; n = n; i = i; carried = c; h = g.0; is = g.1 }
 
   within : (old log : List Mark) (l : Label) → Begins old log → GivenBy plans old l → GivenBy plans log l
@@ -90,13 +89,11 @@ module _ (ranks workers : ℕ) (program : List Doing) (may : Label → List Outl
               label_is : (h : Option Item) → own_due h before ≡ Some f → KeepsDue h d before (part x.lane before) → d ≡ f.label
               label_is None own k = absurd k
               label_is (Some (Message r n)) own k = absurd k
-              label_is (Some (Effect r n i)) own k = absurd k
               label_is (Some (Task r n)) own k = own_label d f (own_due (Some (Task r n)) before) k.0 own
 
           carried : (h : Option Item) (d : Label) → own_due h before ≡ Some f → Carries h (Give d) before → GivenBy plans log f.label
           carried None d own c = absurd c
           carried (Some (Task r n)) d own c = absurd c
-          carried (Some (Effect r n i)) d own c = absurd c
           carried (Some (Message r m)) d own c =
               let sent = c.1 in
               let named = all_named ranks workers before here.1 sent.0 (Sent m c.0 (Give d)) (Message r m) (ap (λ (q : ℕ). Some (Message q m)) sent.1) sent.2 in

@@ -11,7 +11,7 @@ use Rattle.event_lists.specs.declared.event.Event.TheVariants.{Sent, Submitted, 
 use Rattle.event_lists.specs.declared.event.Parcel.TheVariants.{Unit as Spawned, Give}
 use Rattle.event_lists.specs.declared.event.TaskName.{TaskName}
 use Rattle.event_lists.specs.declared.mark.Item.{Item}
-use Rattle.event_lists.specs.declared.mark.Item.TheVariants.{Message, Task, Effect}
+use Rattle.event_lists.specs.declared.mark.Item.TheVariants.{Message, Task}
 use Rattle.event_lists.specs.Futures.{spawned_due}
 use Rattle.event_laws.specs.Follows.{Says}
 use Rattle.event_laws.specs.Trees.{unit_of}
@@ -25,7 +25,6 @@ spawn_is r (of.Spawn v d ns q) e h u s l = (ns, q, step (q == r) s.1)
     label None t l = cc
     label (Some (Message a b)) t l = absurd (cc)
     label (Some (Task a b)) t l = cc
-    label (Some (Effect a b c)) t l = cc
 
     step : (b : Bool) → e ≡ (if b then Submitted s.0 (record { unit = v; needs = ns; due = d }) else Sent s.0 q (Spawned v d)) → of.Spawn v d ns q ≡ of.Spawn u (spawned_due e) ns q
     step true i =

@@ -12,7 +12,7 @@ use Rattle.event_lists.specs.declared.event.Parcel.TheVariants.{Unit as Spawned,
 use Rattle.event_lists.specs.declared.event.TaskName.{TaskName}
 use Rattle.event_lists.specs.declared.receipt.Receipt.{Receipt}
 use Rattle.event_lists.specs.declared.mark.Item.{Item}
-use Rattle.event_lists.specs.declared.mark.Item.TheVariants.{Message, Task, Effect}
+use Rattle.event_lists.specs.declared.mark.Item.TheVariants.{Message, Task}
 use Rattle.event_lists.specs.declared.mark.Mark.{Mark}
 use Rattle.event_lists.specs.Events.{part, main_of, in_hand, ends, Begins, StandsOn, IsSent, IsSubmitted}
 use Rattle.event_lists.specs.Counting.{Counting, MaySpawn, MaySubmit}
@@ -222,7 +222,6 @@ module _ (ranks workers : ℕ) (program : List Doing) (may : Label → List Outl
         spawns None hand m a unit rec = of_main m a.0 a.1 (label_is y.lane.rank a.0 y.event u a.2 unit)
         spawns (Some (Task q n)) hand m a unit rec = of_task q n hand a.0 a.1 unit rec
         spawns (Some (Message q n)) hand m a unit rec = absurd m
-        spawns (Some (Effect q n j)) hand m a unit rec = absurd m
 
         submits : (k : ℕ) (t : TaskName) → y.event ≡ Submitted k t → (h : Option Item) → in_hand (part y.lane (more ++ x ∷ before)) ≡ h → MaySubmit y.lane h → SubmitsFreely h y.lane (more ++ x ∷ before) (part y.lane (more ++ x ∷ before)) t
             → Acts program plans (more ++ x ∷ before) y (part y.lane (more ++ x ∷ before)) h → unit_in y.event ≡ Some u → LateIn more → r.fence ≤ stage u
@@ -232,7 +231,6 @@ module _ (ranks workers : ℕ) (program : List Doing) (may : Label → List Outl
             let label : Some t.unit ≡ Some u = sym (ap unit_in is) ∙ unit in
             let same : t.unit ≡ u = cc in
             of_message q n hand d.0.0 t.due (subst (λ (z : Label). IsSent q n d.0.0 (Spawned z t.due) (more ++ x ∷ before)) same d.0.1) rec
-        submits k t is (Some (Effect q n j)) hand m d a unit rec = absurd m
 
         by_event : (e : Event) → y.event ≡ e → Goes program plans (more ++ x ∷ before) y (part y.lane (more ++ x ∷ before)) e → Counting ranks (more ++ x ∷ before) y.lane (part y.lane (more ++ x ∷ before)) e
             → Dues (more ++ x ∷ before) y.lane (part y.lane (more ++ x ∷ before)) e → unit_in e ≡ Some u → LateIn more → r.fence ≤ stage u

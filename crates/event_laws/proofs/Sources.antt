@@ -10,7 +10,7 @@ use Rattle.event_lists.specs.declared.event.Event.{Event}
 use Rattle.event_lists.specs.declared.event.Event.TheVariants.{Sent, TookTask, Submitted}
 use Rattle.event_lists.specs.declared.event.TaskName.{TaskName}
 use Rattle.event_lists.specs.declared.mark.Item.{Item}
-use Rattle.event_lists.specs.declared.mark.Item.TheVariants.{Message, Task, Effect}
+use Rattle.event_lists.specs.declared.mark.Item.TheVariants.{Message, Task}
 use Rattle.event_lists.specs.declared.mark.Mark.{Mark}
 use Rattle.event_lists.specs.declared.kind.Kind.TheVariants.{Submissions as submissions}
 use Rattle.event_lists.specs.Events.{main_of, Begins, part, same_lane, in_hand, is_item, takes, is_taken, IsSubmitted}
@@ -106,13 +106,11 @@ module _ (ranks workers : ℕ) (program : List Doing) (may : Label → List Outl
           of_main e (lane ∙ ap main_of s.0) done o s.1 says (label_is x.lane.rank o x.event None u says l)
       acts (Some (Message r n)) e lane done a l = absurd lane
       acts (Some (Task r n)) e lane done (i, c) l = of_task r n i e c (label_is x.lane.rank c.o x.event (Some (Task r n)) u c.says l)
-      acts (Some (Effect r n i)) e lane done a l = absurd a
 
       submits : (h : Option Item) → MaySubmit x.lane h → (n : ℕ) (t : TaskName) → spawn_label h (Submitted n t) ≡ Some u → MaySpawn x.lane h
       submits None lane n t l = lane
       submits (Some (Message r m)) lane n t l = absurd (cc)
       submits (Some (Task r m)) lane n t l = tt
-      submits (Some (Effect r m i)) lane n t l = lane
 
       by_event : (e : Event) → x.event ≡ e → Goes program plans before x (part x.lane before) e → Counting ranks before x.lane (part x.lane before) e → Source u x before
       by_event (Sent n to p) i g c = acts (in_hand (part x.lane before)) refl c.1 (ap (is_done None) i) g label

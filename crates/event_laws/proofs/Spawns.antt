@@ -9,7 +9,7 @@ use Rattle.event_lists.specs.declared.event.Event.TheVariants.{Sent, Submitted}
 use Rattle.event_lists.specs.declared.event.Parcel.TheVariants.{Unit as Spawned}
 use Rattle.event_lists.specs.declared.event.TaskName.{TaskName}
 use Rattle.event_lists.specs.declared.mark.Item.{Item}
-use Rattle.event_lists.specs.declared.mark.Item.TheVariants.{Message, Task, Effect}
+use Rattle.event_lists.specs.declared.mark.Item.TheVariants.{Message, Task}
 use Rattle.event_lists.specs.declared.mark.Mark.{Mark}
 use Rattle.event_lists.specs.Events.{Begins, part, in_hand, IsSent, IsSubmitted}
 use Rattle.event_lists.specs.Counting.{Counting, MaySubmit}
@@ -102,7 +102,6 @@ origin ranks workers log h n t s =
     go None e may free = itself (ap (λ (o : Option Item). spawn_label o s.x.event) e ∙ ap (spawn_label None) s.is)
     go (Some (Task q k)) e may free = itself (ap (λ (o : Option Item). spawn_label o s.x.event) e ∙ ap (spawn_label (Some (Task q k))) s.is)
     go (Some (Message r m)) e may free = carried r m free.0.0 e free.0.1
-    go (Some (Effect q k i)) e may free = absurd may
 
 -- the spawn that a message is
 record SentWith (log : List Mark) (r m to : ℕ) (u : Label) : Type 0 where

@@ -6,7 +6,7 @@ use Rattle.event_lists.specs.declared.event.Event.{Event}
 use Rattle.event_lists.specs.declared.event.Event.TheVariants.{Sent, TookMessage, TookTask, Handled, Submitted, Ran, Gave, Put, Erased, ReadHandled, ReadRan, ReadSubmitted, ReadSent, Enter, Leave, Receipt as Receives}
 use Rattle.event_lists.specs.declared.mark.EffectName.{EffectName}
 use Rattle.event_lists.specs.declared.mark.Item.{Item}
-use Rattle.event_lists.specs.declared.mark.Item.TheVariants.{Message, Task, Effect}
+use Rattle.event_lists.specs.declared.mark.Item.TheVariants.{Message, Task}
 use Rattle.event_lists.specs.declared.mark.Mark.{Mark}
 use Rattle.event_lists.specs.Events.{part, in_hand, Begins}
 use Rattle.event_lists.proofs.Lists.{begins_refl, begins_more}
@@ -53,7 +53,6 @@ effect_by program plans log x goes r n i h = by_event x.event goes
     by_hand None a = absurd (no_effect r n i x.effect h a.3)
     by_hand (Some (Message q m)) a = absurd (no_effect r n i x.effect h a)
     by_hand (Some (Task q m)) a = named q m a.0 a.1
-    by_hand (Some (Effect q m j)) a = absurd a
 
     by_event : (e : Event) → Goes program plans log x (part x.lane log) e → CarriesOut plans log x r n i
     by_event (Sent k to p) g = by_hand (in_hand (part x.lane log)) g

@@ -8,7 +8,7 @@ use Rattle.event_lists.specs.declared.event.Event.{Event}
 use Rattle.event_lists.specs.declared.event.Event.TheVariants.{Sent}
 use Rattle.event_lists.specs.declared.mark.EffectName.{EffectName}
 use Rattle.event_lists.specs.declared.mark.Item.{Item}
-use Rattle.event_lists.specs.declared.mark.Item.TheVariants.{Message, Task, Effect}
+use Rattle.event_lists.specs.declared.mark.Item.TheVariants.{Message, Task}
 use Rattle.event_lists.specs.declared.mark.Mark.{Mark}
 use Rattle.event_lists.specs.Events.{part, main_of, in_hand, Begins}
 use Rattle.event_lists.specs.Counting.{Counting, MaySpawn}
@@ -85,7 +85,6 @@ module _ (ranks workers : ℕ) (program : List Doing) (plans : Plans) where
       go : (o : Option Item) → in_hand (part x.lane log) ≡ o → MaySpawn x.lane o → Acts program plans log x (part x.lane log) o → IsStarted program x log
       go (Some (Task q n)) hand m a = absurd (let z : Some (effect_name q n a.0) ≡ None = sym a.1.effect ∙ none in cc)
       go (Some (Message q n)) hand m a = absurd m
-      go (Some (Effect q n i)) hand m a = absurd m
       go None hand m a = at_rank (x.lane.rank == 0) refl a.1
         where
           at_rank : (b : Bool) → (x.lane.rank == 0) ≡ b → slice_get (if b then program else waits program) (deeds (part x.lane log)) ≡ Some (Start a.0) → IsStarted program x log

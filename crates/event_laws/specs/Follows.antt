@@ -13,7 +13,7 @@ use Rattle.event_lists.specs.declared.event.Parcel.TheVariants.{Unit as Spawned,
 use Rattle.event_lists.specs.declared.event.TaskName.{TaskName}
 use Rattle.event_lists.specs.declared.mark.EffectName.{EffectName}
 use Rattle.event_lists.specs.declared.mark.Item.{Item}
-use Rattle.event_lists.specs.declared.mark.Item.TheVariants.{Message, Task, Effect}
+use Rattle.event_lists.specs.declared.mark.Item.TheVariants.{Message, Task}
 use Rattle.event_lists.specs.declared.mark.Mark.{Mark}
 use Rattle.event_lists.specs.Events.{part, in_hand, is_taken, IsSubmitted}
 use Rattle.event_lists.specs.Legal.{Legal}
@@ -130,7 +130,6 @@ abbrev pub Acts : List Doing → Plans → List Mark → Mark → List Event →
 Acts program plans log x mine None = (o : Outline) × (slice_get (program_at x.lane.rank program) (deeds mine) ≡ Some (Start o)) × Says x.lane.rank o x.event × (x.effect ≡ None)
 Acts program plans log x mine (Some (Message r n)) = x.effect ≡ None
 Acts program plans log x mine (Some (Task r n)) = (i : ℕ) × CarriesOut plans log x r n i
-Acts program plans log x mine (Some (Effect r n i)) = ⊥
 
 -- an entry is put or erased by an effect of a task, on the lane of its bin
 abbrev pub Stores : Plans → List Mark → Mark → CellName → Type 0

@@ -10,7 +10,7 @@ use Rattle.event_lists.specs.declared.event.Event.TheVariants.{Sent, TookTask, S
 use Rattle.event_lists.specs.declared.event.Parcel.TheVariants.{Unit as Spawned, Give}
 use Rattle.event_lists.specs.declared.event.TaskName.{TaskName}
 use Rattle.event_lists.specs.declared.mark.Item.{Item}
-use Rattle.event_lists.specs.declared.mark.Item.TheVariants.{Message, Task, Effect}
+use Rattle.event_lists.specs.declared.mark.Item.TheVariants.{Message, Task}
 use Rattle.event_lists.specs.declared.mark.Mark.{Mark}
 use Rattle.event_lists.specs.Events.{Begins, part, in_hand, is_item, makes, takes, ends, times_made}
 use Rattle.event_lists.specs.declared.future.Future.{Future}
@@ -35,7 +35,6 @@ keeps_moves f log x d k is p t = go (in_hand (part x.lane log)) refl k
     go : (h : Option Item) → in_hand (part x.lane log) ≡ h → KeepsDue h d log (part x.lane log) → Moves f log x
     go None i k = absurd k
     go (Some (Message r n)) i k = absurd k
-    go (Some (Effect r n j)) i k = absurd k
     go (Some (Task r n)) i k = task_moves f log x r n d i is (subst (λ (h : Option Item). is_own d (own_due h log) ≡ true) (sym i) k.0) k.1 p t
 
 -- what an event makes has a new due, or one that it moves
@@ -46,7 +45,6 @@ made_moves f log x ranks count dues is = go x.event refl count dues is
     submits n t e (Some (Message r m)) i may free is =
         let own_is : own log x ≡ Some f = ap (λ (h : Option Item). own_due h log) i ∙ subst (λ (h : Option Item). due_of_spawn x.lane.rank h (own_due h log) t.due ≡ Some f) i is in
         inl (message_moves f log x r m i own_is free.1 (λ k. let no : is_fresh (Submitted n t ∷ part x.lane log) ≡ true = subst (λ (z : Event). is_fresh (z ∷ part x.lane log) ≡ true) e k in absurd (cc)) (ap takes e))
-    submits n t e (Some (Effect r m j)) i may free is = absurd may
     submits n t e None i may free is = spawns f log x t.due (subst (MaySpawn x.lane) (sym i) may) (subst (λ (h : Option Item). DueIsFree (own_due h log) (bringer x.lane.rank h) log (part x.lane log) t.due) (sym i) free.0) is (λ d j. ap (passes_on d) e ∙ ap (is_due d) j ∙ same_label_refl d) (ap takes e)
     submits n t e (Some (Task r m)) i may free is = spawns f log x t.due (subst (MaySpawn x.lane) (sym i) may) (subst (λ (h : Option Item). DueIsFree (own_due h log) (bringer x.lane.rank h) log (part x.lane log) t.due) (sym i) free.0) is (λ d j. ap (passes_on d) e ∙ ap (is_due d) j ∙ same_label_refl d) (ap takes e)
 
@@ -63,7 +61,6 @@ given_moves f log x dues is = go x.event refl dues is
     carried : (d : Label) → x.event ≡ Gave d → (h : Option Item) → in_hand (part x.lane log) ≡ h → Carries h (Give d) log → is_fresh (part x.lane log) ≡ true → own log x ≡ Some f → Moves f log x
     carried d e None i c fresh is = absurd c
     carried d e (Some (Task r n)) i c fresh is = absurd c
-    carried d e (Some (Effect r n j)) i c fresh is = absurd c
     carried d e (Some (Message r n)) i c fresh is = message_moves f log x r n i is fresh (λ k. let no : is_fresh (Gave d ∷ part x.lane log) ≡ true = subst (λ (z : Event). is_fresh (z ∷ part x.lane log) ≡ true) e k in absurd (cc)) (ap takes e)
 
     go : (e : Event) → x.event ≡ e → Dues log x.lane (part x.lane log) e → gives (own log x) e ≡ Some f → Moves f log x

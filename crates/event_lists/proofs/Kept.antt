@@ -9,7 +9,7 @@ use Rattle.event_lists.specs.declared.event.Event.{Event}
 use Rattle.event_lists.specs.declared.event.Event.TheVariants.{Sent, TookMessage, TookTask, Handled, Submitted, Ran, Gave}
 use Rattle.event_lists.specs.declared.event.Parcel.TheVariants.{Unit as Spawned, Give}
 use Rattle.event_lists.specs.declared.mark.Item.{Item}
-use Rattle.event_lists.specs.declared.mark.Item.TheVariants.{Message, Task, Effect}
+use Rattle.event_lists.specs.declared.mark.Item.TheVariants.{Message, Task}
 use Rattle.event_lists.specs.declared.mark.Mark.{Mark}
 use Rattle.event_lists.specs.Events.{part, same_lane, in_hand, hand_after, is_item, makes, takes, times_made, is_taken}
 use Rattle.event_lists.specs.declared.future.Future.{Future}
@@ -109,7 +109,6 @@ message_passes ranks r q m f log l mine _ a d h k = keeps h k
 outcome : (ranks r : ℕ) (c : Item) (f : Future) (log : List Mark) (l : LaneName) (mine : List Event) (e : Event) → Counting ranks log l mine e → Dues log l mine e → in_hand mine ≡ Some c → due_of c log ≡ Some f → Keeps c f.label mine → Outcome r c f mine e
 outcome ranks r (Message q m) f log l mine e a d h due k = message_passes ranks r q m f log l mine e a d h k
 outcome ranks r (Task q m) f log l mine e a d h due k = task_passes ranks r q m f log l mine e a d h due k
-outcome ranks r (Effect q m i) f log l mine e a d h due k = absurd k
 
 -- a future has an owner, or was given
 abbrev Lasts : Future → List Mark → Type 0

@@ -6,7 +6,7 @@ use Rattle.event_lists.specs.declared.lane.LaneName.{LaneName}
 use Rattle.event_lists.specs.declared.event.Event.{Event}
 use Rattle.event_lists.specs.declared.event.Event.TheVariants.{Sent, Handled, Submitted, Ran}
 use Rattle.event_lists.specs.declared.mark.Item.{Item}
-use Rattle.event_lists.specs.declared.mark.Item.TheVariants.{Message, Task, Effect}
+use Rattle.event_lists.specs.declared.mark.Item.TheVariants.{Message, Task}
 use Rattle.event_lists.specs.declared.mark.Mark.{Mark}
 use Rattle.event_lists.specs.declared.kind.Kind.{Kind}
 use Rattle.event_lists.specs.declared.kind.Kind.TheVariants.{Sends as sends, Handlings as handlings, Submissions as submissions, Runs as runs}
@@ -129,16 +129,11 @@ stood_below ranks workers (y ∷ more) log h k n x i (inr s) below = stood_below
 pub same_item_true : (c d : Item) → same_item c d ≡ true → c ≡ d
 same_item_true (Message r n) (Message q m) e = let p = and_parts (r == q) (n == m) e in λ i. Message (eqb-true r q p.0 i) (eqb-true n m p.1 i)
 same_item_true (Task r n) (Task q m) e = let p = and_parts (r == q) (n == m) e in λ i. Task (eqb-true r q p.0 i) (eqb-true n m p.1 i)
-same_item_true (Effect r n a) (Effect q m b) e =
-    let p = and_parts (r == q) ((n == m) && (a == b)) e in
-    let s = and_parts (n == m) (a == b) p.1 in
-    λ i. Effect (eqb-true r q p.0 i) (eqb-true n m s.0 i) (eqb-true a b s.1 i)
 same_item_true c d e = absurd (cc)
 
 pub same_item_refl : (c : Item) → same_item c c ≡ true
 same_item_refl (Message r n) = and_from (r == r) (n == n) (eq-eqb r r refl) (eq-eqb n n refl)
 same_item_refl (Task r n) = and_from (r == r) (n == n) (eq-eqb r r refl) (eq-eqb n n refl)
-same_item_refl (Effect r n i) = and_from (r == r) _ (eq-eqb r r refl) (and_from (n == n) (i == i) (eq-eqb n n refl) (eq-eqb i i refl))
 
 pub is_item_some : (c : Item) (o : Option Item) → is_item c o ≡ true → o ≡ Some c
 is_item_some c None e = absurd (cc)
@@ -155,12 +150,10 @@ kind_of _ = submissions
 abbrev pub rank_of : Item → ℕ
 rank_of (Message r n) = r
 rank_of (Task r n) = r
-rank_of (Effect r n i) = r
 
 abbrev pub number_of : Item → ℕ
 number_of (Message r n) = n
 number_of (Task r n) = n
-number_of (Effect r n i) = n
 
 pub makes_number : (c : Item) (r : ℕ) (e : Event) → makes r e ≡ Some c → (number (kind_of c) e ≡ Some (number_of c)) × (r ≡ rank_of c)
 makes_number (Message q m) r (Sent n to p) i = (cc, cc)

@@ -8,7 +8,7 @@ use Rattle.event_lists.specs.declared.event.Event.TheVariants.{Sent, Submitted}
 use Rattle.event_lists.specs.declared.event.Parcel.TheVariants.{Unit as Spawned, Give}
 use Rattle.event_lists.specs.declared.event.TaskName.{TaskName}
 use Rattle.event_lists.specs.declared.mark.Item.{Item}
-use Rattle.event_lists.specs.declared.mark.Item.TheVariants.{Message, Task, Effect}
+use Rattle.event_lists.specs.declared.mark.Item.TheVariants.{Message, Task}
 use Rattle.event_lists.specs.declared.mark.Mark.{Mark}
 use Rattle.event_lists.specs.Events.{part, StandsOn, in_hand, is_item, makes}
 use Rattle.event_lists.specs.declared.future.Bringer.{Bringer}
@@ -27,7 +27,6 @@ own_name d (Some f) e = ap Some (sym (same_label_true d f.label e))
 
 spawn_name : (r : ℕ) (l : LaneName) (h : Option Item) (own : Option Future) (o : Option Label) → MaySpawn l h → label_of (due_of_spawn r h own o) ≡ o
 spawn_name r l (Some (Message q m)) own o may = absurd may
-spawn_name r l (Some (Effect q m i)) own o may = absurd may
 spawn_name r l None own None may = refl
 spawn_name r l (Some (Task q m)) own None may = refl
 spawn_name r l None own (Some d) may = go (is_own d own) refl
@@ -44,7 +43,6 @@ spawn_name r l (Some (Task q m)) own (Some d) may = go (is_own d own) refl
 give_name : (h : Option Item) (d : Label) (log : List Mark) (mine : List Event) → KeepsDue h d log mine → label_of (own_due h log) ≡ Some d
 give_name None d log mine k = absurd k
 give_name (Some (Message q m)) d log mine k = absurd k
-give_name (Some (Effect q m i)) d log mine k = absurd k
 give_name (Some (Task q m)) d log mine k = own_name d (own_due (Some (Task q m)) log) k.0
 
 -- each event of a list that makes an item names its due
@@ -55,7 +53,6 @@ submit_name : (log : List Mark) → AllNamed log → (r : ℕ) (l : LaneName) (h
 submit_name log all r l (Some (Message q m)) mine t may free =
     let s = free.0.1 in
     all s.0 (Sent m free.0.0 (Spawned t.unit t.due)) (Message q m) (ap (λ (z : ℕ). Some (Message z m)) s.1) s.2
-submit_name log all r l (Some (Effect q m i)) mine t may free = absurd may
 submit_name log all r l None mine t may free = spawn_name r l None (own_due None log) t.due may
 submit_name log all r l (Some (Task q m)) mine t may free = spawn_name r l (Some (Task q m)) (own_due (Some (Task q m)) log) t.due may
 
@@ -84,7 +81,6 @@ labels_back b (d ∷ ds) = ap (λ es. d ∷ es) (labels_back b ds)
 
 needs_made : (log : List Mark) (r : ℕ) (l : LaneName) (h : Option Item) (mine : List Event) (t : TaskName) → MaySubmit l h → SubmitsFreely h l log mine t → map (λ f. f.label) (futures_by (bringer r h) t.needs) ≡ t.needs
 needs_made log r l (Some (Message q m)) mine t may free = sym free.2
-needs_made log r l (Some (Effect q m i)) mine t may free = absurd may
 needs_made log r l None mine t may free = labels_back _ t.needs
 needs_made log r l (Some (Task q m)) mine t may free = labels_back _ t.needs
 

@@ -9,7 +9,7 @@ use Rattle.event_lists.specs.declared.event.Event.{Event}
 use Rattle.event_lists.specs.declared.event.Event.TheVariants.{Sent, TookMessage, TookTask, Submitted, Gave}
 use Rattle.event_lists.specs.declared.event.Parcel.TheVariants.{Unit as Spawned, Give}
 use Rattle.event_lists.specs.declared.mark.Item.{Item}
-use Rattle.event_lists.specs.declared.mark.Item.TheVariants.{Message, Task, Effect}
+use Rattle.event_lists.specs.declared.mark.Item.TheVariants.{Message, Task}
 use Rattle.event_lists.specs.declared.mark.Mark.{Mark}
 use Rattle.event_lists.specs.Events.{part, same_lane, in_hand, is_item, makes, takes, is_taken}
 use Rattle.event_lists.specs.declared.future.Bringer.{Bringer}
@@ -104,7 +104,6 @@ due_raised c f (x ∷ log) i = go (λ d. due_raised d f log) (is_item c (makes x
 abbrev pub Keeps : Item → Label → List Event → Type 0
 Keeps (Message r n) d mine = is_fresh mine ≡ true
 Keeps (Task r n) d mine = is_kept d mine ≡ true
-Keeps (Effect r n i) d mine = ⊥
 
 -- a message or task has this future as its due, and isn't taken, or is in a hand and keeps it
 pub record Owns (f : Future) (log : List Mark) (c : Item) : Type 0 where
@@ -145,7 +144,6 @@ keeps_back (Message r n) d ranks log l (Gave g) mine a h k = absurd (cc)
 keeps_back (Message r n) d ranks log l _ mine a h k = k
 keeps_back (Task r n) d ranks log l (TookTask q m) mine a h k = let none = a.0 in absurd (cc)
 keeps_back (Task r n) d ranks log l e mine a h k = (and_parts (not (passes_on d e)) (is_kept d mine) k).1
-keeps_back (Effect r n i) d ranks log l e mine a h k = absurd k
 
 -- who owns a future got it just now, or owned it
 pub owns_back : (ranks workers : ℕ) (f : Future) (log : List Mark) (x : Mark) → Legal ranks workers (x ∷ log) → (c : Item) → Owns f (x ∷ log) c
@@ -221,7 +219,6 @@ spawns f log x o may free is p t = go (in_hand (part x.lane log)) refl o refl ma
     go : (h : Option Item) → in_hand (part x.lane log) ≡ h → (o' : Option Label) → o ≡ o' → MaySpawn x.lane h → DueIsFree (own_due h log) (bringer x.lane.rank h) log (part x.lane log) o' → due_of_spawn x.lane.rank h (own_due h log) o' ≡ Some f → Moves f log x ⊎ (was_due f.by f.label log ≡ false)
     go None i None j may free is = absurd (cc)
     go (Some (Message r n)) i o' j may free is = absurd may
-    go (Some (Effect r n k)) i o' j may free is = absurd may
     go (Some (Task r n)) i None j may free is = absurd (cc)
     go None i (Some d) j may (inl a) is = let no_own = a.0 in absurd (cc)
     go None i (Some d) j may (inr a) is = inr (subst (λ (z : Future). was_due z.by z.label log ≡ false) (let e : record { by = main_at x.lane.rank; label = d } ≡ f = cc in e) a.1)

@@ -7,7 +7,7 @@ use Rattle.event_lists.specs.declared.lane.LaneName.{LaneName}
 use Rattle.event_lists.specs.declared.event.Event.{Event}
 use Rattle.event_lists.specs.declared.event.Event.TheVariants.{Sent, TookMessage, TookTask, Handled, Submitted, Ran}
 use Rattle.event_lists.specs.declared.mark.Item.{Item}
-use Rattle.event_lists.specs.declared.mark.Item.TheVariants.{Message, Task, Effect}
+use Rattle.event_lists.specs.declared.mark.Item.TheVariants.{Message, Task}
 use Rattle.event_lists.specs.declared.mark.Mark.{Mark}
 use Rattle.event_lists.specs.declared.kind.Kind.{Kind}
 use Rattle.event_lists.specs.declared.kind.Kind.TheVariants.{Sends as sends, Handlings as handlings, Submissions as submissions, Runs as runs}
@@ -17,7 +17,7 @@ use Rattle.event_lists.specs.Fences.{sum_ranks}
 use Rattle.event_lists.specs.Legal.{Legal}
 use Rattle.event_lists.proofs.Lists.{one_if, same_lane_true, legal_begins, begins_refl, begins_trans, begins_tail, count_grows, count_begins}
 use Rattle.event_lists.proofs.Waiting.{Holds, waiting, hand_waits, ends_hand, new_or_old, made_now, weighed, no_weight}
-use Rattle.event_lists.proofs.Sums.{squeezed, same_sum, totals, message_weight, task_weight, made_messages, ended_messages, made_tasks, ended_tasks, hand_rank, makes_task, waiting_rank, no_effect, off}
+use Rattle.event_lists.proofs.Sums.{squeezed, same_sum, totals, message_weight, task_weight, made_messages, ended_messages, made_tasks, ended_tasks, hand_rank, makes_task, waiting_rank, off}
 
 -- what is in hand stays there until it is ended
 hand_step : (ranks : ℕ) (log : List Mark) (l : LaneName) (e : Event) (es : List Event) (c : Item) → in_hand es ≡ Some c → Counting ranks log l es e → (in_hand (e ∷ es) ≡ Some c) ⊎ (ends e ≡ Some c)
@@ -142,7 +142,6 @@ module _ (ranks workers : ℕ) (end M : List Mark) (h1 r1 u1 s1 h2 s2 : ℕ → 
       go None i = a i
       go (Some (Message r m)) i = c r m i
       go (Some (Task r m)) i = d r m i
-      go (Some (Effect r m j)) i = no_effect log r m j (hand_waits ranks workers log legal l (Effect r m j) i)
 
   -- nor is one from then on to M
   no_task : (q : ℕ) → q < ranks → (more : List Mark) → Begins (more ++ r1 q) M → (n : ℕ) → Holds (waiting (more ++ r1 q)) (Task q n) → ⊥
@@ -202,7 +201,6 @@ module _ (ranks workers : ℕ) (end M : List Mark) (h1 r1 u1 s1 h2 s2 : ℕ → 
       let f = p.first q b in
       let to = begins_trans (r1 q) (u1 q) M f.1 f.2 in
       no_task q b to.0 (subst (λ (z : List Mark). Begins z M) to.1 (begins_refl M)) n (subst (λ (z : List Mark). Holds (waiting z) (Task q n)) to.1 w)
-  nothing_waits (Effect r n i) w = no_effect M r n i w
 
   -- and from M on no count changes, and nothing is left undone
   pub still : (more : List Mark) → Begins (more ++ M) end → ((c : Item) → Holds (waiting (more ++ M)) c → ⊥) × ((k : Kind) (r : ℕ) → count k r (more ++ M) ≡ count k r M)

@@ -6,7 +6,7 @@ use Rattle.event_lists.specs.declared.lane.LaneName.{LaneName}
 use Rattle.event_lists.specs.declared.event.Event.{Event}
 use Rattle.event_lists.specs.declared.event.Event.TheVariants.{Sent, TookTask, Handled, Submitted, Ran}
 use Rattle.event_lists.specs.declared.mark.Item.{Item}
-use Rattle.event_lists.specs.declared.mark.Item.TheVariants.{Message, Task, Effect}
+use Rattle.event_lists.specs.declared.mark.Item.TheVariants.{Message, Task}
 use Rattle.event_lists.specs.declared.mark.Mark.{Mark}
 use Rattle.event_lists.specs.declared.kind.Kind.{Kind}
 use Rattle.event_lists.specs.declared.kind.Kind.TheVariants.{Sends as sends, Handlings as handlings, Submissions as submissions, Runs as runs}
@@ -147,13 +147,3 @@ waiting_rank ranks workers (x ∷ log) h q n w = ⊎_elim
     (λ e. subst (λ (z : ℕ). z < ranks) (makes_task x.lane.rank x.event q n e) h.0.named.0)
     (λ b. waiting_rank ranks workers log h.1 q n b)
     (new_or_old x log (Task q n) w)
-
--- no effect waits
-pub no_effect : (log : List Mark) (r n i : ℕ) → Holds (waiting log) (Effect r n i) → ⊥
-no_effect [] r n i w = w
-no_effect (x ∷ log) r n i w = ⊎_elim (λ e. made x.event e) (λ b. no_effect log r n i b) (new_or_old x log (Effect r n i) w)
-  where
-    made : (e : Event) → makes x.lane.rank e ≡ Some (Effect r n i) → ⊥
-    made (Sent m to p) e = absurd (cc)
-    made (Submitted m t) e = absurd (cc)
-    made _ e = absurd (cc)

@@ -15,7 +15,7 @@ use Rattle.event_lists.specs.Events.{main_of, count, in_hand, is_taken, IsSent, 
 abbrev pub MaySpawn : LaneName → Option Item → Type 0
 MaySpawn l None = l ≡ main_of l.rank
 MaySpawn l (Some (Task r n)) = Unit {0}
-MaySpawn l (Some _) = ⊥
+MaySpawn l (Some (Message r n)) = ⊥
 
 -- the same, or a message is in hand
 abbrev pub MaySubmit : LaneName → Option Item → Type 0

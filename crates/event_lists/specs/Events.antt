@@ -8,7 +8,7 @@ use Rattle.event_lists.specs.declared.event.Event.TheVariants.{Sent, TookMessage
 use Rattle.event_lists.specs.declared.event.Parcel.{Parcel}
 use Rattle.event_lists.specs.declared.event.TaskName.{TaskName}
 use Rattle.event_lists.specs.declared.mark.Item.{Item}
-use Rattle.event_lists.specs.declared.mark.Item.TheVariants.{Message, Task, Effect}
+use Rattle.event_lists.specs.declared.mark.Item.TheVariants.{Message, Task}
 use Rattle.event_lists.specs.declared.mark.Mark.{Mark}
 
 abbrev pub same_bool : Bool → Bool → Bool
@@ -67,7 +67,6 @@ count k r (x ∷ log) = (if counts k r x then 1 else 0) + count k r log
 abbrev pub same_item : Item → Item → Bool
 same_item (Message r n) (Message q m) = (r == q) && (n == m)
 same_item (Task r n) (Task q m) = (r == q) && (n == m)
-same_item (Effect r n i) (Effect q m j) = (r == q) && ((n == m) && (i == j))
 same_item _ _ = false
 
 abbrev pub is_item : Item → Option Item → Bool

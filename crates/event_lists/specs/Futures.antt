@@ -30,7 +30,7 @@ is_future f (Some g) = same_future f g
 abbrev pub bringer : ℕ → Option Item → Option Bringer
 bringer r None = Some (main_at r)
 bringer r (Some (Task q n)) = Some (task_of q n)
-bringer r (Some _) = None
+bringer r (Some (Message q n)) = None
 
 abbrev pub future_by : Option Bringer → Label → Option Future
 future_by None d = None

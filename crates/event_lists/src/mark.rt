@@ -2,7 +2,7 @@
 use crate::event::Event;
 use crate::lane::LaneName;
 
-/// What one hand may have: a message, a task, or an effect of a task, by numbers alone.
+/// What one hand may have: a message or a task, by its rank and number.
 #[derive(Clone, Copy, Debug, PartialEq, Eq, PartialOrd, Ord, Hash)]
 pub enum Item {
     /// Message `number` that rank `rank` sent.
@@ -10,9 +10,6 @@ pub enum Item {
 
     /// Task `number` that was submitted at rank `rank`.
     Task { rank: u32, number: u64 },
-
-    /// The effect at place `place` of task `number` of rank `rank`.
-    Effect { rank: u32, number: u64, place: u64 },
 }
 
 /// The effect that an event carried out: the one at a place of a task.

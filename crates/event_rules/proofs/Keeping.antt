@@ -11,7 +11,7 @@ use Rattle.event_lists.specs.declared.future.Bringer.{Bringer}
 use Rattle.event_lists.specs.declared.future.Future.{Future}
 use Rattle.event_lists.specs.declared.kind.Kind.TheVariants.{Submissions as submissions}
 use Rattle.event_lists.specs.declared.mark.Item.{Item}
-use Rattle.event_lists.specs.declared.mark.Item.TheVariants.{Message, Task, Effect}
+use Rattle.event_lists.specs.declared.mark.Item.TheVariants.{Message, Task}
 use Rattle.event_lists.specs.declared.mark.Mark.{Mark}
 use Rattle.event_lists.specs.Counting.{MaySpawn}
 use Rattle.event_lists.specs.Events.{part, in_hand, count}
@@ -44,7 +44,6 @@ own_due_free log l s shows may d b own = (
         let isnt : is_own d s.own ≡ false = ap (is_own d) none in
         absurd (cc)
     go (Some (Message r n)) i m = absurd m
-    go (Some (Effect r n k)) i m = absurd m
     go (Some (Task r n)) i m = kept_shown log l s shows r n i d own
 
     kept : s.keeps ≡ is_kept d (part l log)
@@ -60,7 +59,6 @@ keeps_shown log l s shows d = subst (λ (h : Option Item). KeepsOwn s d ↔ Keep
     go : (h : Option Item) → s.hand ≡ h → (HasTask h × (is_own d s.own ≡ true) × (s.keeps ≡ true)) ↔ KeepsDue h d log (part l log)
     go None i = ((λ a. absurd a.0), (λ a. absurd a))
     go (Some (Message r n)) i = ((λ a. absurd a.0), (λ a. absurd a))
-    go (Some (Effect r n k)) i = ((λ a. absurd a.0), (λ a. absurd a))
     go (Some (Task r n)) i =
         let same = ap (is_own d) (own (Some (Task r n)) i) in (
           (λ a. (sym same ∙ a.1, sym (kept_shown log l s shows r n i d a.1) ∙ a.2)),
@@ -75,7 +73,6 @@ fresh_shown log l s shows p carries = go s.hand refl carries
     go None i a = absurd a
     go (Some (Message r n)) i a = shows.fresh r n i
     go (Some (Task r n)) i a = absurd a
-    go (Some (Effect r n k)) i a = absurd a
 
 -- a future may be given by a task that keeps it, and by a message that carries it
 pub given_shown : (ranks : ℕ) (log : List Mark) (l : LaneName) (s : LaneState) → ShowsLane log l s → (d : Label) → (KeepsOwn s d ⊎ ((s.fresh ≡ true) × Carries s.hand (Give d) log)) ↔ Asks ranks log l (Gave d)
@@ -108,7 +105,6 @@ spawned_shown ranks log l s shows n t number none = go s.hand refl none
 
     go : (h : Option Item) → s.hand ≡ h → NoMessage h → SpawnsFreely log l s t ↔ Asks ranks log l (Submitted n t)
     go (Some (Message r m)) i none = absurd none
-    go (Some (Effect r m k)) i none = absurd none
     go None i none = rw (shows.own, shows.fence, shows.hand, hand None i) (
       (λ a. ((number, a.0), (a.2, a.3, a.4), a.1)),
       (λ a. (a.0.1, a.2, a.1.0, a.1.1, a.1.2)),

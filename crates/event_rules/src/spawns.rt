@@ -76,7 +76,6 @@ pub fn may_submit<P: Past>(
             state.fresh && task.needs.is_empty() && carries(past, rank, number, &parcel)
         }
         Some(Item::Task { .. }) | None => may_spawn_task(past, lane, state, task),
-        Some(Item::Effect { .. }) => false,
     }
 }
 
