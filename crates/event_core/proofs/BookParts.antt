@@ -8,8 +8,9 @@ use Rattle.event_lists.specs.declared.mark.Item.{Item}
 use Rattle.event_lists.specs.declared.mark.Mark.{Mark}
 use Rattle.event_lists.specs.Events.{same_lane, part, StandsOn, takes, is_taken, number, count}
 use Rattle.event_lists.specs.Legal.{Legal}
-use Rattle.event_lists.proofs.Lists.{same_lane_true, numbered, on_below}
-use Rattle.event_lists.proofs.Waiting.{taken_here, taken_more, took_fresh}
+use Rattle.event_lists.proofs.LaneLemmas.{same_lane_true}
+use Rattle.event_lists.proofs.CountLemmas.{numbered, on_below}
+use Rattle.event_lists.proofs.ItemLemmas.{taken_here, taken_more, took_fresh}
 use Rattle.event_core.specs.Books.{TakingsAreApart, NumbersAreApart}
 
 -- an event of a lane's part stands in the list

@@ -10,8 +10,7 @@ use Rattle.event_lists.specs.declared.mark.Mark.{Mark}
 use Rattle.event_lists.specs.Events.{part, in_hand, same_item, is_item, makes, takes, is_taken}
 use Rattle.event_lists.specs.Futures.{bringer, due_made, due_of, own_due}
 use Rattle.event_lists.specs.Legal.{Legal}
-use Rattle.event_lists.proofs.Lists.{same_item_true, same_item_refl, some_is_item, new_item}
-use Rattle.event_lists.proofs.Waiting.{taken_here}
+use Rattle.event_lists.proofs.ItemLemmas.{same_item_true, same_item_refl, some_is_item, new_item, taken_here}
 use Rattle.event_rules.specs.declared.values.Load.{Load}
 use Rattle.event_rules.specs.declared.values.Made.{Made}
 use Rattle.event_rules.specs.declared.values.LaneState.{LaneState}

@@ -19,7 +19,7 @@ use Rattle.event_lists.specs.Events.{part, in_hand}
 use Rattle.event_lists.specs.Futures.{same_bringer, bringer, is_bringer, spawned_due, spawned_needs, was_due}
 use Rattle.event_lists.specs.Dues.{NeedsAreDues}
 use Rattle.event_lists.specs.Legal.{Legal}
-use Rattle.event_lists.proofs.Owners.{same_label_true, same_label_refl}
+use Rattle.event_lists.proofs.FutureLemmas.{same_label_true, same_label_refl}
 use Rattle.event_rules.specs.declared.values.LaneState.{LaneState}
 use Rattle.event_rules.specs.declared.values.Found.{Found}
 use Rattle.event_rules.specs.Listed.{on}

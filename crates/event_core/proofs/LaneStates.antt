@@ -12,8 +12,7 @@ use Rattle.event_lists.specs.Events.{part, same_lane, in_hand, hand_after}
 use Rattle.event_lists.specs.Futures.{own_due, passes_on, is_kept, is_fresh}
 use Rattle.event_lists.specs.Fences.{fence_in, enters, readings, passes}
 use Rattle.event_lists.specs.Legal.{Legal}
-use Rattle.event_lists.proofs.Lists.{same_lane_true}
-use Rattle.event_lists.proofs.Owners.{part_own}
+use Rattle.event_lists.proofs.LaneLemmas.{same_lane_true, part_own}
 use Rattle.event_rules.specs.declared.values.LaneState.{LaneState}
 use Rattle.event_rules.specs.Listed.{on}
 use Rattle.event_rules.specs.Shown.{ShowsLane}

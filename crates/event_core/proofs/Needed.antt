@@ -19,7 +19,7 @@ use Rattle.event_lists.specs.Events.{part, in_hand}
 use Rattle.event_lists.specs.Futures.{bringer, is_bringer, spawned_needs, own_due, was_needed}
 use Rattle.event_lists.specs.Dues.{Dues, SubmitsFreely, NeedsAreFree}
 use Rattle.event_lists.specs.Legal.{Legal}
-use Rattle.event_lists.proofs.Owners.{same_label_true}
+use Rattle.event_lists.proofs.FutureLemmas.{same_label_true}
 use Rattle.event_core.specs.Kept.{needed_by}
 use Rattle.event_core.proofs.Same.{same_bringer_true}
 

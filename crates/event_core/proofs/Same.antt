@@ -7,7 +7,7 @@ use Rattle.app_core.specs.Outlines.{same_label}
 use Rattle.event_lists.specs.declared.future.Bringer.{Bringer}
 use Rattle.event_lists.specs.declared.future.Future.{Future}
 use Rattle.event_lists.specs.Futures.{same_bringer, same_future}
-use Rattle.event_lists.proofs.Owners.{same_label_true, same_label_refl, is_future_some, some_is_future}
+use Rattle.event_lists.proofs.FutureLemmas.{same_label_true, same_label_refl, is_future_some, some_is_future}
 
 -- tests that are true together are equal
 pub both_true : (a b : Bool) → (a ≡ true → b ≡ true) → (b ≡ true → a ≡ true) → a ≡ b

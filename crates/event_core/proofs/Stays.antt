@@ -10,8 +10,8 @@ use Rattle.event_lists.specs.declared.mark.Mark.{Mark}
 use Rattle.event_lists.specs.Events.{part, in_hand, is_item, makes, takes, times_made, is_taken}
 use Rattle.event_lists.specs.Futures.{due_made, due_of, own_due}
 use Rattle.event_lists.specs.Legal.{Legal}
-use Rattle.event_lists.proofs.Lists.{is_item_some, new_item}
-use Rattle.event_lists.proofs.Waiting.{hand_taken, took_fresh}
+use Rattle.event_lists.proofs.ItemLemmas.{is_item_some, new_item, took_fresh}
+use Rattle.event_lists.proofs.HandLemmas.{hand_taken}
 use Rattle.event_rules.specs.Shown.{load_made, load_of}
 
 -- what was taken was made

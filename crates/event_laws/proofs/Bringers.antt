@@ -24,10 +24,9 @@ use Rattle.event_lists.specs.declared.mark.Mark.{Mark}
 use Rattle.event_lists.specs.Events.{Begins, part, in_hand, IsSubmitted}
 use Rattle.event_lists.specs.Futures.{bringer, is_own, own_due, spawned_due}
 use Rattle.event_lists.specs.Laws.{label_of}
-use Rattle.event_lists.proofs.Lists.{legal_begins, begins_tail, begins_trans}
-use Rattle.event_lists.proofs.Cuts.{on_begins}
-use Rattle.event_lists.proofs.Named.{all_named}
-use Rattle.event_lists.proofs.Owners.{same_label_refl}
+use Rattle.event_lists.proofs.ListLemmas.{legal_begins, begins_tail, begins_trans, on_begins}
+use Rattle.event_lists.proofs.FutureLemmas.{same_label_refl}
+use Rattle.event_lists.proofs.NameLemmas.{all_named}
 use Rattle.event_laws.specs.Follows.{Plans, Doing, Start, deeds, Says, IsRun}
 use Rattle.event_laws.specs.Trees.{IsTree, BringsUp, IsOnce}
 use Rattle.event_laws.specs.Apart.{spawn_label, named_in, Brought, HasOneBringer, EffectsApart}

@@ -13,7 +13,7 @@ use Rattle.event_lists.specs.declared.mark.Item.{Item}
 use Rattle.event_lists.specs.declared.mark.Item.TheVariants.{Message, Task}
 use Rattle.event_lists.specs.declared.mark.Mark.{Mark}
 use Rattle.event_lists.specs.Events.{Begins, StandsOn, part, in_hand}
-use Rattle.event_lists.proofs.Lists.{begins_refl, begins_more}
+use Rattle.event_lists.proofs.ListLemmas.{begins_refl, begins_more}
 use Rattle.event_laws.specs.Follows.{Plans, Doing, FollowsBy, Goes, Acts, Stores, event_of, CarriesOut, effect_name, is_effect, carried_out, bin_of}
 use Rattle.event_laws.proofs.Positions.{goes_at, at_stands}
 

@@ -11,9 +11,8 @@ use Rattle.event_lists.specs.declared.event.Event.TheVariants.{Put, Erased}
 use Rattle.event_lists.specs.declared.mark.Mark.{Mark}
 use Rattle.event_lists.specs.Events.{Begins, StandsOn, part, same_lane}
 use Rattle.event_lists.specs.Bins.{same_name, is_put}
-use Rattle.event_lists.proofs.Lists.{begins_tail, same_lane_true}
-use Rattle.event_lists.proofs.Cuts.{on_begins}
-use Rattle.event_lists.proofs.Owners.{part_own}
+use Rattle.event_lists.proofs.LaneLemmas.{same_lane_true, part_own}
+use Rattle.event_lists.proofs.ListLemmas.{begins_tail, on_begins}
 use Rattle.event_laws.specs.Follows.{Plans, Doing, FollowsBy, Goes, Says, Stores, carried_out, bin_of}
 use Rattle.event_laws.specs.Apart.{EffectsApart, ErasesPut}
 use Rattle.event_laws.proofs.Says.{says_put, says_erase}

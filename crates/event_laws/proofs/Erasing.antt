@@ -17,9 +17,8 @@ use Rattle.event_lists.specs.Futures.{needs_of, IsIn}
 use Rattle.event_lists.specs.Counting.{Counting}
 use Rattle.event_lists.specs.Dues.{Dues}
 use Rattle.event_lists.specs.Legal.{Legal}
-use Rattle.event_lists.proofs.Lists.{legal_begins, begins_refl, begins_tail, begins_trans}
-use Rattle.event_lists.proofs.Cuts.{on_begins}
-use Rattle.event_lists.proofs.Named.{needs_named}
+use Rattle.event_lists.proofs.ListLemmas.{legal_begins, begins_refl, begins_tail, begins_trans, on_begins}
+use Rattle.event_lists.proofs.NameLemmas.{needs_named}
 use Rattle.event_laws.specs.Follows.{is_own, bin_of, Plans, Doing, IsRun}
 use Rattle.event_laws.specs.Trees.{IsTree, IsPlaced, IsAbove, same, above, GivesAfterPut, ErasesWait}
 use Rattle.event_laws.specs.Apart.{ErasesPut}

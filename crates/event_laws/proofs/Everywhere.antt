@@ -17,9 +17,9 @@ use Rattle.event_lists.specs.Events.{part, main_of, in_hand, Begins, StandsOn, I
 use Rattle.event_lists.specs.Counting.{Counting, MaySpawn, MaySubmit}
 use Rattle.event_lists.specs.Dues.{Dues, SubmitsFreely}
 use Rattle.event_lists.specs.Legal.{Legal}
-use Rattle.event_lists.proofs.Lists.{legal_begins, begins_tail}
-use Rattle.event_lists.proofs.Owners.{part_own}
-use Rattle.event_lists.proofs.Cuts.{hand_sent}
+use Rattle.event_lists.proofs.LaneLemmas.{part_own}
+use Rattle.event_lists.proofs.ListLemmas.{legal_begins, begins_tail}
+use Rattle.event_lists.proofs.HandLemmas.{hand_sent}
 use Rattle.event_laws.specs.Follows.{Plans, Doing, Start, Goes, Acts, CarriesOut, Follows, Says, program_at, deeds, is_done, waits}
 use Rattle.event_laws.proofs.Positions.{goes_at}
 use Rattle.event_laws.proofs.Sources.{one_name, task_submitted}

@@ -14,8 +14,9 @@ use Rattle.event_lists.specs.Events.{part, same_lane, in_hand, takes}
 use Rattle.event_lists.specs.Bins.{Bins}
 use Rattle.event_lists.specs.Fences.{Fences}
 use Rattle.event_lists.specs.Legal.{Legal}
-use Rattle.event_lists.proofs.Lists.{same_lane_true, legal_begins}
-use Rattle.event_lists.proofs.Cuts.{taken_at}
+use Rattle.event_lists.proofs.LaneLemmas.{same_lane_true}
+use Rattle.event_lists.proofs.ListLemmas.{legal_begins}
+use Rattle.event_lists.proofs.HandLemmas.{taken_at}
 use Rattle.event_laws.specs.Follows.{Plans, Doing, FollowsBy, Goes, Acts, Finished, CarriesOut, Says, is_own, owns, since, carried_out}
 use Rattle.event_laws.proofs.Positions.{carried_begins}
 use Rattle.event_laws.proofs.Standing.{is_named, carried_here}

@@ -16,9 +16,9 @@ use Rattle.event_lists.specs.Futures.{is_future, own_due, gives, times_given}
 use Rattle.event_lists.specs.Dues.{Dues, Carries, KeepsDue}
 use Rattle.event_lists.specs.Laws.{label_of}
 use Rattle.event_lists.specs.Legal.{Legal}
-use Rattle.event_lists.proofs.Lists.{legal_begins, begins_refl, begins_more, begins_tail, begins_trans}
-use Rattle.event_lists.proofs.Named.{all_named}
-use Rattle.event_lists.proofs.Owners.{is_future_some, own_label}
+use Rattle.event_lists.proofs.ListLemmas.{legal_begins, begins_refl, begins_more, begins_tail, begins_trans}
+use Rattle.event_lists.proofs.FutureLemmas.{is_future_some, own_label}
+use Rattle.event_lists.proofs.NameLemmas.{all_named}
 use Rattle.event_laws.specs.Follows.{Plans, Doing, Acts, Goes, CarriesOut, IsRun}
 use Rattle.event_laws.proofs.Positions.{goes_at, stands_at}
 use Rattle.event_laws.proofs.Says.{gave_is, gives_is}

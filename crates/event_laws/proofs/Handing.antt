@@ -20,9 +20,11 @@ use Rattle.event_lists.specs.Dues.{Dues, Carries, SubmitsFreely, KeepsDue}
 use Rattle.event_lists.specs.Futures.{is_fresh}
 use Rattle.event_lists.specs.Quiet.{AllHandledOnce}
 use Rattle.event_lists.specs.Legal.{Legal}
-use Rattle.event_lists.proofs.Lists.{same_lane_true, legal_begins, begins_trans, same_item_refl, same_event, made_once}
-use Rattle.event_lists.proofs.Waiting.{waiting, hand_waits, times, no_weight, only, weigh}
-use Rattle.event_lists.proofs.Cuts.{on_begins}
+use Rattle.event_lists.proofs.LaneLemmas.{same_lane_true}
+use Rattle.event_lists.proofs.ListLemmas.{legal_begins, begins_trans, on_begins}
+use Rattle.event_lists.proofs.CountLemmas.{same_event}
+use Rattle.event_lists.proofs.ItemLemmas.{same_item_refl, made_once}
+use Rattle.event_lists.proofs.WaitingLemmas.{waiting, hand_waits, times, no_weight, only, weigh}
 use Rattle.event_laws.specs.Follows.{Says}
 use Rattle.event_laws.specs.Done.{IsHandedOn}
 use Rattle.event_laws.proofs.Positions.{stands_at}

@@ -12,8 +12,9 @@ use Rattle.event_lists.specs.declared.mark.Item.TheVariants.{Message}
 use Rattle.event_lists.specs.declared.mark.Mark.{Mark}
 use Rattle.event_lists.specs.declared.kind.Kind.TheVariants.{Sends as sends}
 use Rattle.event_lists.specs.Events.{Begins, part, in_hand, IsSent, IsSubmitted}
-use Rattle.event_lists.proofs.Lists.{legal_begins, begins_tail, begins_trans, same_event}
-use Rattle.event_lists.proofs.Cuts.{on_begins, hand_sent}
+use Rattle.event_lists.proofs.ListLemmas.{legal_begins, begins_tail, begins_trans, on_begins}
+use Rattle.event_lists.proofs.CountLemmas.{same_event}
+use Rattle.event_lists.proofs.HandLemmas.{hand_sent}
 use Rattle.event_laws.specs.Follows.{Plans, Doing, Start, deeds, Says, IsRun}
 use Rattle.event_laws.specs.Trees.{IsPlaced}
 use Rattle.event_laws.specs.Apart.{spawn_label}

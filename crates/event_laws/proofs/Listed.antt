@@ -18,8 +18,9 @@ use Rattle.event_lists.specs.declared.kind.Kind.TheVariants.{Sends as sends, Sub
 use Rattle.event_lists.specs.Events.{part, count, is_kind, Begins, StandsOn, IsSubmitted}
 use Rattle.event_lists.specs.Counting.{Counting}
 use Rattle.event_lists.specs.Legal.{Legal}
-use Rattle.event_lists.proofs.Lists.{begins_refl, begins_more, on_below}
-use Rattle.event_lists.proofs.Sums.{total}
+use Rattle.event_lists.proofs.ListLemmas.{begins_refl, begins_more}
+use Rattle.event_lists.proofs.CountLemmas.{on_below}
+use Rattle.event_lists.proofs.SumLemmas.{total}
 use Rattle.event_laws.specs.Follows.{Plans, Doing, FollowsBy, Says, deeds, carried_out}
 use Rattle.event_laws.specs.Apart.{Apart, spawned}
 use Rattle.event_laws.specs.Totals.{is_away}

@@ -14,8 +14,8 @@ use Rattle.event_lists.specs.declared.mark.Mark.{Mark}
 use Rattle.event_lists.specs.Events.{part, same_lane, Begins, StandsOn}
 use Rattle.event_lists.specs.Bins.{Bins, same_name, is_put}
 use Rattle.event_lists.specs.Legal.{Legal}
-use Rattle.event_lists.proofs.Lists.{same_lane_true, same_lane_refl, legal_begins, begins_tail}
-use Rattle.event_lists.proofs.Cuts.{on_begins}
+use Rattle.event_lists.proofs.LaneLemmas.{same_lane_true, same_lane_refl}
+use Rattle.event_lists.proofs.ListLemmas.{legal_begins, begins_tail, on_begins}
 use Rattle.event_laws.specs.Follows.{Plans, Doing, FollowsBy, Goes, CarriesOut, IsRun, Says, bin_of, carried_out}
 use Rattle.event_laws.specs.Apart.{EffectsApart}
 use Rattle.event_laws.specs.Stages.{IsStaged}

@@ -11,7 +11,8 @@ use Rattle.event_lists.specs.declared.mark.Mark.{Mark}
 use Rattle.event_lists.specs.Events.{part, same_lane, main_of, in_hand, Begins}
 use Rattle.event_lists.specs.Fences.{Fences, fence_in, enters}
 use Rattle.event_lists.specs.Legal.{Legal}
-use Rattle.event_lists.proofs.Lists.{same_lane_true, begins_refl, begins_more}
+use Rattle.event_lists.proofs.LaneLemmas.{same_lane_true}
+use Rattle.event_lists.proofs.ListLemmas.{begins_refl, begins_more}
 use Rattle.event_laws.specs.Follows.{Plans, Doing, Start, Wait, FollowsBy, Goes, Acts, Says, waits, program_at, is_done, deeds}
 use Rattle.event_laws.specs.Stages.{fences_in}
 

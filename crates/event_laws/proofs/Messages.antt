@@ -13,9 +13,10 @@ use Rattle.event_lists.specs.Events.{Begins, part, same_lane, in_hand, takes, is
 use Rattle.event_lists.specs.Futures.{is_fresh}
 use Rattle.event_lists.specs.Dues.{Dues, SubmitsFreely}
 use Rattle.event_lists.specs.Legal.{Legal}
-use Rattle.event_lists.proofs.Lists.{legal_begins}
-use Rattle.event_lists.proofs.Owners.{part_own}
-use Rattle.event_lists.proofs.Waiting.{hand_before, hand_taken, taken_more, took_fresh, one_hand}
+use Rattle.event_lists.proofs.LaneLemmas.{part_own}
+use Rattle.event_lists.proofs.ListLemmas.{legal_begins}
+use Rattle.event_lists.proofs.ItemLemmas.{taken_more, took_fresh}
+use Rattle.event_lists.proofs.HandLemmas.{hand_before, hand_taken, one_hand}
 use Rattle.event_laws.proofs.Positions.{order}
 
 -- a message was taken, and whoever has it in hand has submitted its unit or given its future

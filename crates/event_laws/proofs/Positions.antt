@@ -8,9 +8,8 @@ use Rattle.event_lists.specs.declared.mark.EffectName.{EffectName}
 use Rattle.event_lists.specs.declared.mark.Item.{Item}
 use Rattle.event_lists.specs.declared.mark.Mark.{Mark}
 use Rattle.event_lists.specs.Events.{Begins, StandsOn, part, is_item, takes, is_taken}
-use Rattle.event_lists.proofs.Lists.{begins_refl, begins_more, begins_tail, is_item_some}
-use Rattle.event_lists.proofs.Cuts.{on_begins}
-use Rattle.event_lists.proofs.Waiting.{taken_more}
+use Rattle.event_lists.proofs.ListLemmas.{begins_refl, begins_more, begins_tail, on_begins}
+use Rattle.event_lists.proofs.ItemLemmas.{is_item_some, taken_more}
 use Rattle.event_laws.specs.Follows.{Plans, Doing, FollowsBy, Goes, effect_name, is_effect, carried_out}
 
 -- the last event of a list, or one of the rest

@@ -20,10 +20,11 @@ use Rattle.event_lists.specs.Dues.{Dues, SubmitsFreely}
 use Rattle.event_lists.specs.Fences.{fence_in, enters}
 use Rattle.event_lists.specs.Quiet.{Quiet}
 use Rattle.event_lists.specs.Legal.{Legal}
-use Rattle.event_lists.proofs.Lists.{legal_begins, begins_tail}
-use Rattle.event_lists.proofs.Waiting.{ends_hand}
-use Rattle.event_lists.proofs.Cuts.{ended_at, received}
-use Rattle.event_lists.proofs.Receipts.{quiet}
+use Rattle.event_lists.proofs.ListLemmas.{legal_begins, begins_tail}
+use Rattle.event_lists.proofs.ItemLemmas.{ended_at}
+use Rattle.event_lists.proofs.HandLemmas.{ends_hand}
+use Rattle.event_lists.proofs.ReceiptLemmas.{received}
+use Rattle.event_lists.proofs.ReceiptLemmas.{quiet}
 use Rattle.event_laws.specs.Follows.{Plans, Doing, Start, Wait, Goes, Acts, CarriesOut, Finished, FollowsBy, IsRun, Says, program_at, deeds, waits, carried_out}
 use Rattle.event_laws.specs.Trees.{unit_of}
 use Rattle.event_laws.specs.Stages.{fences_in, IsStaged}

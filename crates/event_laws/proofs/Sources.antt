@@ -16,9 +16,10 @@ use Rattle.event_lists.specs.declared.kind.Kind.TheVariants.{Submissions as subm
 use Rattle.event_lists.specs.Events.{main_of, Begins, part, same_lane, in_hand, is_item, takes, is_taken, IsSubmitted}
 use Rattle.event_lists.specs.Counting.{Counting, MaySpawn, MaySubmit}
 use Rattle.event_lists.specs.Legal.{Legal}
-use Rattle.event_lists.proofs.Lists.{legal_begins, begins_refl, begins_trans, begins_tail, is_item_some, same_event}
-use Rattle.event_lists.proofs.Cuts.{on_begins}
-use Rattle.event_lists.proofs.Owners.{part_own}
+use Rattle.event_lists.proofs.LaneLemmas.{part_own}
+use Rattle.event_lists.proofs.ListLemmas.{legal_begins, begins_refl, begins_trans, begins_tail, on_begins}
+use Rattle.event_lists.proofs.CountLemmas.{same_event}
+use Rattle.event_lists.proofs.ItemLemmas.{is_item_some}
 use Rattle.event_laws.specs.Follows.{Plans, Doing, Start, Wait, waits, program_at, is_done, deeds, Says, CarriesOut, Acts, Goes, IsRun, carried_out}
 use Rattle.event_laws.specs.Trees.{unit_of, IsTree}
 use Rattle.event_laws.specs.Apart.{spawn_label, spawned, Apart}

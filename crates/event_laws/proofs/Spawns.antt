@@ -15,7 +15,7 @@ use Rattle.event_lists.specs.Events.{Begins, part, in_hand, IsSent, IsSubmitted}
 use Rattle.event_lists.specs.Counting.{Counting, MaySubmit}
 use Rattle.event_lists.specs.Dues.{Dues, SubmitsFreely}
 use Rattle.event_lists.specs.Legal.{Legal}
-use Rattle.event_lists.proofs.Lists.{legal_begins, begins_trans, begins_tail}
+use Rattle.event_lists.proofs.ListLemmas.{legal_begins, begins_trans, begins_tail}
 use Rattle.event_laws.specs.Apart.{spawn_label, spawned, Apart}
 use Rattle.event_laws.proofs.Members.{contains_cons}
 use Rattle.event_laws.proofs.Positions.{begins_cons, begins_none, order, stands_at}

@@ -9,7 +9,7 @@ use Rattle.event_lists.specs.declared.mark.Item.{Item}
 use Rattle.event_lists.specs.declared.mark.Item.TheVariants.{Message, Task}
 use Rattle.event_lists.specs.declared.mark.Mark.{Mark}
 use Rattle.event_lists.specs.Events.{part, in_hand, Begins}
-use Rattle.event_lists.proofs.Lists.{begins_refl, begins_more}
+use Rattle.event_lists.proofs.ListLemmas.{begins_refl, begins_more}
 use Rattle.event_laws.specs.Follows.{Plans, Doing, FollowsBy, Goes, Acts, CarriesOut, effect_name, is_effect, carried_out}
 
 goes_before : (program : List Doing) (plans : Plans) (more log : List Mark) → FollowsBy program plans (more ++ log) → FollowsBy program plans log

@@ -13,8 +13,8 @@ use Rattle.event_lists.specs.declared.mark.Mark.{Mark}
 use Rattle.event_lists.specs.Events.{part, main_of, in_hand, Begins}
 use Rattle.event_lists.specs.Counting.{Counting, MaySpawn}
 use Rattle.event_lists.specs.Legal.{Legal}
-use Rattle.event_lists.proofs.Lists.{legal_begins, begins_refl, begins_more}
-use Rattle.event_lists.proofs.Owners.{part_own}
+use Rattle.event_lists.proofs.LaneLemmas.{part_own}
+use Rattle.event_lists.proofs.ListLemmas.{legal_begins, begins_refl, begins_more}
 use Rattle.event_laws.specs.Follows.{Plans, Doing, Start, FollowsBy, Goes, Acts, Says, deeds, is_done, waits, effect_name}
 use Rattle.event_laws.proofs.Standing.{goes_begins}
 use Rattle.event_laws.proofs.Mains.{deeds_grow, no_starts}

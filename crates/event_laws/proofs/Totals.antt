@@ -14,10 +14,9 @@ use Rattle.event_lists.specs.Events.{part, main_of, count, Begins, IsSubmitted}
 use Rattle.event_lists.specs.Fences.{row_of, sum_ranks}
 use Rattle.event_lists.specs.Quiet.{named}
 use Rattle.event_lists.specs.Legal.{Legal}
-use Rattle.event_lists.proofs.Lists.{legal_begins, begins_tail}
-use Rattle.event_lists.proofs.Sums.{total, totals}
-use Rattle.event_lists.proofs.Cuts.{received, agreed}
-use Rattle.event_lists.proofs.Agreed.{rows_are_counts}
+use Rattle.event_lists.proofs.ListLemmas.{legal_begins, begins_tail}
+use Rattle.event_lists.proofs.SumLemmas.{total, totals}
+use Rattle.event_lists.proofs.ReceiptLemmas.{received, agreed, rows_are_counts}
 use Rattle.event_laws.specs.Follows.{Plans, Doing, Start, IsRun, deeds, effect_name}
 use Rattle.event_laws.specs.Apart.{Apart, spawned}
 use Rattle.event_laws.specs.Stages.{fences_in, IsStaged, IsOfFence, AreUnits}

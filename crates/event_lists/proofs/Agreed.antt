@@ -16,9 +16,10 @@ use Rattle.event_lists.specs.Counting.{Counting, MaySpawn, MaySubmit}
 use Rattle.event_lists.specs.Fences.{Fences, row_of, IsComplete, Agree, sum_ranks, total_sent, total_handled, sent_in, handled_in, fence_in, has_receipt, is_receipt}
 use Rattle.event_lists.specs.Quiet.{named}
 use Rattle.event_lists.specs.Legal.{Legal, May}
-use Rattle.event_lists.proofs.Lists.{legal_begins, begins_refl, begins_trans, begins_both, count_begins}
-use Rattle.event_lists.proofs.Waiting.{Holds, waiting}
-use Rattle.event_lists.proofs.Sums.{same_sum}
+use Rattle.event_lists.proofs.ListLemmas.{legal_begins, begins_refl, begins_trans, begins_both}
+use Rattle.event_lists.proofs.CountLemmas.{count_begins}
+use Rattle.event_lists.proofs.WaitingLemmas.{Holds, waiting}
+use Rattle.event_lists.proofs.SumLemmas.{same_sum}
 use Rattle.event_lists.proofs.Passes.{Passes, still, sent_same, handled_same, tasks_stay}
 use Rattle.event_lists.proofs.Moments.{Times, Timed, timed, row_kept, stays_inside}
 

@@ -1,6 +1,6 @@
 -- A future is given at most once, and the needs of a task before it was taken.
-use Rattle.std.proofs.Common.{◌≡◌, ◌⊎◌, ℕ, zero, suc, ◌+◌, ◌≤◌, Bool, true, false, List, [], ◌∷◌, ◌++◌, refl, sym, ap, ◌∙◌, subst, inl, inr, ⊎_elim, arith}
-use Rattle.std.specs.Prelude.{if◌then◌else◌, Option, Some, None}
+use Rattle.std.proofs.Common.{◌≡◌, ◌⊎◌, ℕ, zero, suc, ◌+◌, ◌≤◌, Bool, true, false, List, [], ◌∷◌, refl, sym, ap, ◌∙◌, subst, inl, inr, ⊎_elim, arith}
+use Rattle.std.specs.Prelude.{Option, Some, None}
 use Rattle.std.proofs.lemmas.Bool.{both_ways, or_right}
 use Rattle.app_core.specs.declared.label.Label.{Label}
 use Rattle.app_core.specs.Outlines.{is_due}
@@ -12,17 +12,20 @@ use Rattle.event_lists.specs.declared.event.TaskName.{TaskName}
 use Rattle.event_lists.specs.declared.mark.Item.{Item}
 use Rattle.event_lists.specs.declared.mark.Item.TheVariants.{Message, Task}
 use Rattle.event_lists.specs.declared.mark.Mark.{Mark}
-use Rattle.event_lists.specs.Events.{Begins, part, in_hand, is_item, makes, takes, ends, times_made}
+use Rattle.event_lists.specs.Events.{Begins, part, in_hand, makes, takes, ends}
 use Rattle.event_lists.specs.declared.future.Future.{Future}
-use Rattle.event_lists.specs.Futures.{is_future, bringer, futures_by, spawned_needs, is_own, due_of_spawn, due_made, own_due, needs_of, was_due, passes_on, is_fresh, gives, times_given, IsIn}
+use Rattle.event_lists.specs.Futures.{is_future, bringer, is_own, due_of_spawn, due_made, own_due, needs_of, was_due, passes_on, is_fresh, gives, times_given, IsIn}
 use Rattle.event_lists.specs.Counting.{Counting, MaySpawn, MaySubmit}
 use Rattle.event_lists.specs.Dues.{Dues, DueIsFree, KeepsDue, Carries, SubmitsFreely}
 use Rattle.event_lists.specs.Quiet.{AllNeedsGivenOnce}
 use Rattle.event_lists.specs.Legal.{Legal}
-use Rattle.event_lists.proofs.Lists.{one_if, legal_begins, begins_trans, begins_tail, is_item_some, made_here, new_item}
-use Rattle.event_lists.proofs.Waiting.{Holds, waiting, ends_hand, ended_once, took_fresh}
-use Rattle.event_lists.proofs.Cuts.{ended_at, taken_at}
-use Rattle.event_lists.proofs.Owners.{same_label_refl, is_future_some, due_raised, Owns, Moves, owned, lost_now, owns_back, task_moves, message_moves, spawns}
+use Rattle.event_lists.proofs.CountLemmas.{one_if}
+use Rattle.event_lists.proofs.ListLemmas.{legal_begins, begins_trans, begins_tail}
+use Rattle.event_lists.proofs.ItemLemmas.{made_here, took_fresh, ended_at}
+use Rattle.event_lists.proofs.WaitingLemmas.{Holds, waiting, ended_once}
+use Rattle.event_lists.proofs.HandLemmas.{ends_hand, taken_at}
+use Rattle.event_lists.proofs.FutureLemmas.{same_label_refl, is_future_some, given_grows, needs_last}
+use Rattle.event_lists.proofs.Owners.{due_raised, Owns, Moves, owned, lost_now, owns_back, task_moves, message_moves, spawns}
 
 -- what a legal event asks, at what is in hand
 abbrev own : List Mark → Mark → Option Future
@@ -158,29 +161,6 @@ sole ranks workers f (x ∷ log) h =
 pub given_once : (ranks workers : ℕ) (log : List Mark) → Legal ranks workers log → (f : Future) → times_given f log ≤ 1
 given_once ranks workers log h f = (sole ranks workers f log h).once
 
-given_grows : (f : Future) (more log : List Mark) → times_given f log ≤ times_given f (more ++ log)
-given_grows f [] log = omega arith
-given_grows f (x ∷ more) log = omega (arith, given_grows f more log)
-
-made_grows : (c : Item) (more log : List Mark) → times_made c log ≤ times_made c (more ++ log)
-made_grows c [] log = omega arith
-made_grows c (x ∷ more) log = omega (arith, made_grows c more log)
-
--- the needs of a task stay as they were when it was submitted
-needs_stay : (ranks workers : ℕ) (more log : List Mark) → Legal ranks workers (more ++ log) → (c : Item) → 1 ≤ times_made c log → needs_of c (more ++ log) ≡ needs_of c log
-needs_stay ranks workers [] log h c m = refl
-needs_stay ranks workers (x ∷ more) log h c m = go (is_item c (makes x.lane.rank x.event)) refl (needs_stay ranks workers more log h.1 c m)
-  where
-    go : (b : Bool) → is_item c (makes x.lane.rank x.event) ≡ b → needs_of c (more ++ log) ≡ needs_of c log
-        → (if b then futures_by (bringer x.lane.rank (in_hand (part x.lane (more ++ log)))) (spawned_needs x.event) else needs_of c (more ++ log)) ≡ needs_of c log
-    go true e rest =
-        let none = new_item ranks workers (more ++ log) x h c (is_item_some c (makes x.lane.rank x.event) e) in
-        absurd (omega (arith, none, made_grows c more log))
-    go false e rest = rest
-
-same_needs : (ranks workers : ℕ) (old log : List Mark) → Begins old log → Legal ranks workers log → (c : Item) → 1 ≤ times_made c old → needs_of c log ≡ needs_of c old
-same_needs ranks workers old log b h c m = ap (needs_of c) b.1 ∙ needs_stay ranks workers b.0 old (subst (Legal ranks workers) b.1 h) c m
-
 task_took : (r n : ℕ) (log : List Mark) (l : LaneName) (mine : List Event) (e : Event) → Dues log l mine e → takes e ≡ Some (Task r n) → (f : Future) → IsIn f (needs_of (Task r n) log) → 1 ≤ times_given f log
 task_took r n log l mine (TookTask q m) a t f i = a f (subst (λ (c : Item). IsIn f (needs_of c log)) (let e : Task r n ≡ Task q m = cc in e) i)
 task_took r n log l mine e a t f i = absurd (cc)
@@ -191,7 +171,7 @@ taken_given ranks workers log h r n x earlier to t f i =
     let at_took = legal_begins ranks workers (x ∷ earlier) log to h in
     let before : Begins earlier log = begins_tail x earlier log to in
     let was_made = (took_fresh (Task r n) x.event ranks earlier x.lane (part x.lane earlier) at_took.0.counting t).0 in
-    let needs : needs_of (Task r n) log ≡ needs_of (Task r n) earlier = same_needs ranks workers earlier log before h (Task r n) was_made in
+    let needs : needs_of (Task r n) log ≡ needs_of (Task r n) earlier = needs_last ranks workers earlier log h before (Task r n) was_made in
     let given = task_took r n earlier x.lane (part x.lane earlier) x.event at_took.0.dues t f (subst (IsIn f) needs i) in
     let grows : times_given f earlier ≤ times_given f log = subst (λ (z : List Mark). times_given f earlier ≤ times_given f z) (sym before.1) (given_grows f before.0 earlier) in
     (omega (arith, given, grows, given_once ranks workers log h f), omega (arith, given, given_once ranks workers earlier at_took.1 f))

@@ -1,7 +1,7 @@
 -- A due is kept until it is given: it has an owner, or was given.
 use Rattle.std.proofs.Common.{◌≡◌, ◌⊎◌, ℕ, ◌+◌, ◌≤◌, Bool, true, false, not, List, [], ◌∷◌, refl, sym, ap, ◌∙◌, subst, inl, inr, ⊎_elim, arith}
 use Rattle.std.specs.Prelude.{if◌then◌else◌, Option, Some, None}
-use Rattle.std.proofs.lemmas.Bool.{and_from, cases_Bool, both_ways, or_cases, or_from, false_from_ne_true}
+use Rattle.std.proofs.lemmas.Bool.{and_from, cases_Bool, both_ways, or_from, false_from_ne_true}
 use Rattle.app_core.specs.declared.label.Label.{Label}
 use Rattle.app_core.specs.Outlines.{same_label, is_due}
 use Rattle.event_lists.specs.declared.lane.LaneName.{LaneName}
@@ -17,18 +17,13 @@ use Rattle.event_lists.specs.Futures.{is_future, is_own, due_of_spawn, due_made,
 use Rattle.event_lists.specs.Counting.{Counting, MaySpawn}
 use Rattle.event_lists.specs.Dues.{Dues, HasPassedOn}
 use Rattle.event_lists.specs.Legal.{Legal}
-use Rattle.event_lists.proofs.Lists.{one_if, same_lane_true, is_item_some, some_is_item, new_item}
-use Rattle.event_lists.proofs.Waiting.{Holds, waiting, took_fresh, made_waits, hand_waits}
-use Rattle.event_lists.proofs.Owners.{Keeps, Owns, part_own, same_label_true, same_label_refl, some_is_future}
+use Rattle.event_lists.proofs.CountLemmas.{one_if}
+use Rattle.event_lists.proofs.LaneLemmas.{same_lane_true, part_own}
+use Rattle.event_lists.proofs.ItemLemmas.{is_item_some, some_is_item, new_item, taken_made}
+use Rattle.event_lists.proofs.WaitingLemmas.{Holds, waiting, made_waits, hand_waits}
+use Rattle.event_lists.proofs.Owners.{Keeps, Owns}
+use Rattle.event_lists.proofs.FutureLemmas.{same_label_true, same_label_refl, some_is_future}
 use Rattle.event_lists.proofs.Given.{given_once}
-
--- what was taken was made
-taken_made : (ranks workers : ℕ) (log : List Mark) → Legal ranks workers log → (c : Item) → is_taken c log ≡ true → 1 ≤ times_made c log
-taken_made ranks workers [] h c t = absurd (cc)
-taken_made ranks workers (x ∷ log) h c t = ⊎_elim
-    (λ here. omega (arith, (took_fresh c x.event ranks log x.lane (part x.lane log) h.0.counting (is_item_some c (takes x.event) here)).0))
-    (λ before. omega (arith, taken_made ranks workers log h.1 c before))
-    (or_cases (is_item c (takes x.event)) (is_taken c log) t)
 
 -- what has a due was made
 due_was_made : (c : Item) (f : Future) (log : List Mark) → due_of c log ≡ Some f → 1 ≤ times_made c log

@@ -13,7 +13,8 @@ use Rattle.event_lists.specs.Events.{part, same_lane, main_of, Begins, count}
 use Rattle.event_lists.specs.declared.kind.Reading.{Reading}
 use Rattle.event_lists.specs.Fences.{Fences, reading, readings, passes, row_after, row_of, IsReady, InOrder, Reads, fence_in, enters, is_receipt, has_receipt}
 use Rattle.event_lists.specs.Legal.{Legal}
-use Rattle.event_lists.proofs.Lists.{same_lane_true, begins_refl, begins_more}
+use Rattle.event_lists.proofs.LaneLemmas.{same_lane_true}
+use Rattle.event_lists.proofs.ListLemmas.{begins_refl, begins_more}
 
 module _ (ranks workers q : ℕ) where
   -- a reading that stands in the list was taken at one of its beginnings, in order

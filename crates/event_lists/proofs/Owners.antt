@@ -1,7 +1,7 @@
 -- Who owns a future: at any moment at most one message or task that is yet to give it or pass it on.
 use Rattle.std.proofs.Common.{◌≡◌, ◌⊎◌, ℕ, Bool, true, false, not, ◌&&◌, ◌||◌, List, [], ◌∷◌, refl, sym, ap, ◌∙◌, subst, inl, inr, ⊎_elim}
-use Rattle.std.specs.Prelude.{if◌then◌else◌, ◌==◌, Option, Some, None}
-use Rattle.std.proofs.lemmas.Bool.{and_parts, and_from, eqb-true, eq-eqb, both_ways, or_left, or_right}
+use Rattle.std.specs.Prelude.{if◌then◌else◌, Option, Some, None}
+use Rattle.std.proofs.lemmas.Bool.{and_parts, and_from, both_ways, or_left, or_right}
 use Rattle.app_core.specs.declared.label.Label.{Label}
 use Rattle.app_core.specs.Outlines.{same_label, is_due}
 use Rattle.event_lists.specs.declared.lane.LaneName.{LaneName}
@@ -15,47 +15,14 @@ use Rattle.event_lists.specs.Events.{part, same_lane, in_hand, is_item, makes, t
 use Rattle.event_lists.specs.declared.future.Bringer.{Bringer}
 use Rattle.event_lists.specs.declared.future.Bringer.TheVariants.{Task as task_of, Main as main_at}
 use Rattle.event_lists.specs.declared.future.Future.{Future}
-use Rattle.event_lists.specs.Futures.{same_bringer, same_future, is_future, bringer, future_by, is_bringer, spawned_due, is_own, due_of_spawn, due_made, due_of, own_due, was_due, passes_on, is_kept, is_fresh}
+use Rattle.event_lists.specs.Futures.{same_bringer, bringer, future_by, is_bringer, spawned_due, is_own, due_of_spawn, due_made, due_of, own_due, was_due, passes_on, is_kept, is_fresh}
 use Rattle.event_lists.specs.Counting.{Counting, MaySpawn}
 use Rattle.event_lists.specs.Dues.{DueIsFree}
 use Rattle.event_lists.specs.Legal.{Legal}
-use Rattle.event_lists.proofs.Lists.{same_lane_true, same_lane_refl, is_item_some}
-use Rattle.event_lists.proofs.Waiting.{hand_before, hand_taken, untaken, took_fresh, one_hand}
-
--- labels and futures
-pub same_label_true : (a b : Label) → same_label a b ≡ true → a ≡ b
-same_label_true a b e =
-    let p = and_parts ((a.command == b.command) && (a.part == b.part)) (a.place == b.place) e in
-    let q = and_parts (a.command == b.command) (a.part == b.part) p.0 in
-    λ i. record { command = eqb-true a.command b.command q.0 i; part = eqb-true a.part b.part q.1 i; place = eqb-true a.place b.place p.1 i }
-
-pub same_label_refl : (a : Label) → same_label a a ≡ true
-same_label_refl a = and_from _ (a.place == a.place) (and_from (a.command == a.command) (a.part == a.part) (eq-eqb a.command a.command refl) (eq-eqb a.part a.part refl)) (eq-eqb a.place a.place refl)
-
-same_bringer_true : (a b : Bringer) → same_bringer a b ≡ true → a ≡ b
-same_bringer_true (task_of r n) (task_of q m) e = let p = and_parts (r == q) (n == m) e in λ i. task_of (eqb-true r q p.0 i) (eqb-true n m p.1 i)
-same_bringer_true (main_at r) (main_at q) e = λ i. main_at (eqb-true r q e i)
-same_bringer_true (task_of r n) (main_at q) e = absurd (cc)
-same_bringer_true (main_at r) (task_of q m) e = absurd (cc)
-
-same_bringer_refl : (a : Bringer) → same_bringer a a ≡ true
-same_bringer_refl (task_of r n) = and_from (r == r) (n == n) (eq-eqb r r refl) (eq-eqb n n refl)
-same_bringer_refl (main_at r) = eq-eqb r r refl
-
-same_future_true : (f g : Future) → same_future f g ≡ true → f ≡ g
-same_future_true f g e =
-    let p = and_parts (same_bringer f.by g.by) (same_label f.label g.label) e in
-    λ i. record { by = same_bringer_true f.by g.by p.0 i; label = same_label_true f.label g.label p.1 i }
-
-pub is_future_some : (f : Future) (o : Option Future) → is_future f o ≡ true → o ≡ Some f
-is_future_some f None e = absurd (cc)
-is_future_some f (Some g) e = ap Some (sym (same_future_true f g e))
-
-same_future_refl : (f : Future) → same_future f f ≡ true
-same_future_refl f = and_from (same_bringer f.by f.by) (same_label f.label f.label) (same_bringer_refl f.by) (same_label_refl f.label)
-
-pub some_is_future : (f : Future) (o : Option Future) → o ≡ Some f → is_future f o ≡ true
-some_is_future f o e = ap (is_future f) e ∙ same_future_refl f
+use Rattle.event_lists.proofs.LaneLemmas.{same_lane_true, part_own}
+use Rattle.event_lists.proofs.ItemLemmas.{is_item_some, untaken, took_fresh}
+use Rattle.event_lists.proofs.HandLemmas.{hand_before, hand_taken, one_hand}
+use Rattle.event_lists.proofs.FutureLemmas.{same_label_refl, same_bringer_refl, own_label}
 
 -- a spawn's new due is its bringer's
 spawn_raised : (r : ℕ) (h : Option Item) (d : Label) (f : Future) → future_by (bringer r h) d ≡ Some f → (is_bringer f.by (bringer r h) ≡ true) × (d ≡ f.label)
@@ -122,9 +89,6 @@ pub record Moves (f : Future) (log : List Mark) (x : Mark) : Type 0 where
 pub owned : (f : Future) (log : List Mark) (x : Mark) (m : Moves f log x) → Owns f log m.item
 owned f log x m = record { due = m.due; still = inr (x.lane, m.hand, m.kept) }
 
-pub part_own : (l : LaneName) (x : Mark) (log : List Mark) → x.lane ≡ l → part l (x ∷ log) ≡ x.event ∷ part x.lane log
-part_own l x log same = subst (λ (m : LaneName). part m (x ∷ log) ≡ x.event ∷ part x.lane log) same (ap (λ (b : Bool). if b then x.event ∷ part x.lane log else part x.lane log) (same_lane_refl x.lane))
-
 -- whose hand it was taken from doesn't own it any more
 pub lost_now : (ranks workers : ℕ) (f : Future) (log : List Mark) (x : Mark) → Legal ranks workers log → (m : Moves f log x) → Owns f (x ∷ log) m.item → ⊥
 lost_now ranks workers f log x h m o = ⊎_elim
@@ -178,9 +142,6 @@ record Own (f : Future) (h : Option Item) (log : List Mark) : Type 0 where
 own_item : (f : Future) (h : Option Item) (log : List Mark) → own_due h log ≡ Some f → Own f h log
 own_item f None log i = absurd (cc)
 own_item f (Some c) log i = record { item = c; hand = refl; due = i }
-
-pub own_label : (d : Label) (f : Future) (o : Option Future) → is_own d o ≡ true → o ≡ Some f → d ≡ f.label
-own_label d f o e i = same_label_true d f.label (subst (λ (z : Option Future). is_own d z ≡ true) i e)
 
 unkept : (d : Label) (e : Event) (mine : List Event) → passes_on d e ≡ true → takes e ≡ None → is_kept d (e ∷ mine) ≡ true → ⊥
 unkept d (TookTask r n) mine p t k = absurd (cc)

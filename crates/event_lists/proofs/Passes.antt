@@ -15,9 +15,13 @@ use Rattle.event_lists.specs.Events.{part, same_lane, Begins, in_hand, is_kind, 
 use Rattle.event_lists.specs.Counting.{Counting}
 use Rattle.event_lists.specs.Fences.{sum_ranks}
 use Rattle.event_lists.specs.Legal.{Legal}
-use Rattle.event_lists.proofs.Lists.{one_if, same_lane_true, legal_begins, begins_refl, begins_trans, begins_tail, count_grows, count_begins}
-use Rattle.event_lists.proofs.Waiting.{Holds, waiting, hand_waits, ends_hand, new_or_old, made_now, weighed, no_weight}
-use Rattle.event_lists.proofs.Sums.{squeezed, same_sum, totals, message_weight, task_weight, made_messages, ended_messages, made_tasks, ended_tasks, hand_rank, makes_task, waiting_rank, off}
+use Rattle.event_lists.proofs.CountLemmas.{one_if, count_grows, count_begins}
+use Rattle.event_lists.proofs.LaneLemmas.{same_lane_true}
+use Rattle.event_lists.proofs.ListLemmas.{legal_begins, begins_refl, begins_trans, begins_tail}
+use Rattle.event_lists.proofs.WaitingLemmas.{Holds, waiting, hand_waits, new_or_old, made_now, weighed, no_weight}
+use Rattle.event_lists.proofs.HandLemmas.{ends_hand, hand_rank}
+use Rattle.event_lists.proofs.SumLemmas.{squeezed, same_sum, totals}
+use Rattle.event_lists.proofs.Weights.{message_weight, task_weight, made_messages, ended_messages, made_tasks, ended_tasks, makes_task, waiting_rank, off}
 
 -- what is in hand stays there until it is ended
 hand_step : (ranks : ℕ) (log : List Mark) (l : LaneName) (e : Event) (es : List Event) (c : Item) → in_hand es ≡ Some c → Counting ranks log l es e → (in_hand (e ∷ es) ≡ Some c) ⊎ (ends e ≡ Some c)

@@ -9,5 +9,7 @@ pub mod Bins
 pub mod Legal
 pub mod Quiet
 pub mod Laws
+pub mod OwnEvents
+pub mod LastingLaws
 pub mod Books
 pub mod Runs

@@ -10,6 +10,7 @@ mod event;
 mod future;
 mod kind;
 mod lane;
+mod lasting;
 mod laws;
 mod mark;
 mod receipt;
@@ -18,6 +19,11 @@ pub use event::{Event, Parcel, TaskName};
 pub use future::{Bringer, Future};
 pub use kind::{Kind, Reading};
 pub use lane::LaneName;
+pub use lasting::{
+    conditions_last, counts_are_below_lengths, dues_and_needs_of_items_last, events_last,
+    items_are_made_once, items_are_taken_once, numbers_are_below_counts, receipts_are_own,
+    rows_last, spawns_are_own,
+};
 pub use laws::{
     a_run_with_tasks_is_judged, beginnings_are_legal, counts_are_frozen,
     dues_are_given_up_to_the_receipt, events_are_counted_once, futures_have_their_names,

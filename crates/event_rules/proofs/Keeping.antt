@@ -17,7 +17,7 @@ use Rattle.event_lists.specs.Counting.{MaySpawn}
 use Rattle.event_lists.specs.Events.{part, in_hand, count}
 use Rattle.event_lists.specs.Futures.{is_own, is_kept, is_fresh, own_due}
 use Rattle.event_lists.specs.Dues.{Carries, DueIsFree, KeepsDue, WasNoDue}
-use Rattle.event_lists.proofs.Owners.{own_label}
+use Rattle.event_lists.proofs.FutureLemmas.{own_label}
 use Rattle.event_rules.specs.declared.values.LaneState.{LaneState}
 use Rattle.event_rules.specs.Asks.{Asks}
 use Rattle.event_rules.specs.Shown.{ShowsLane}

@@ -12,7 +12,7 @@ use Rattle.event_lists.specs.declared.mark.Mark.{Mark}
 use Rattle.event_lists.specs.Events.{part, StandsOn, in_hand, is_item, makes, IsSent, IsSubmitted}
 use Rattle.event_lists.specs.Futures.{bringer, futures_by, spawned_needs, needs_of}
 use Rattle.event_lists.specs.Legal.{Legal}
-use Rattle.event_lists.proofs.Lists.{is_item_some, some_is_item, made_here, new_item}
+use Rattle.event_lists.proofs.ItemLemmas.{is_item_some, some_is_item, made_here, new_item}
 use Rattle.event_rules.specs.declared.values.Load.{Load}
 use Rattle.event_rules.specs.declared.values.Load.TheVariants as of
 use Rattle.event_rules.specs.Shown.{load_made, load_of, spawner_of}

@@ -7,7 +7,7 @@ use Rattle.app_core.specs.declared.Outline.{Outline}
 use Rattle.app_core.specs.declared.Outline.TheVariants as of
 use Rattle.app_core.specs.Commands.{IsWork}
 use Rattle.app_core.specs.Outlines.{same_label}
-use Rattle.event_lists.proofs.Owners.{same_label_refl}
+use Rattle.event_lists.proofs.FutureLemmas.{same_label_refl}
 use Rattle.event_laws.specs.Trees.{unit_of}
 use Rattle.event_laws.specs.Apart.{Apart}
 use Rattle.event_laws.specs.Held.{fences_before}

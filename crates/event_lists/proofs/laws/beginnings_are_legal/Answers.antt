@@ -1,4 +1,4 @@
-use Rattle.event_lists.proofs.Lists.{legal_begins}
+use Rattle.event_lists.proofs.ListLemmas.{legal_begins}
 use Rattle.event_lists.proofs.laws.beginnings_are_legal.Goals as goal
 
 pub returns : goal.returns

@@ -1,4 +1,4 @@
-use Rattle.event_lists.proofs.Receipts.{frozen}
+use Rattle.event_lists.proofs.ReceiptLemmas.{frozen}
 use Rattle.event_lists.proofs.laws.counts_are_frozen.Goals as goal
 
 pub returns : goal.returns

@@ -1,4 +1,4 @@
-use Rattle.event_lists.proofs.Receipts.{dues_given}
+use Rattle.event_lists.proofs.ReceiptLemmas.{dues_given}
 use Rattle.event_lists.proofs.laws.dues_are_given_up_to_the_receipt.Goals as goal
 
 pub returns : goal.returns

@@ -1,4 +1,4 @@
-use Rattle.event_lists.proofs.Named.{all_named, needs_named}
+use Rattle.event_lists.proofs.NameLemmas.{all_named, needs_named}
 use Rattle.event_lists.proofs.laws.futures_have_their_names.Goals as goal
 
 pub returns-clause-dues : goal.returns-clause-dues

@@ -1,4 +1,4 @@
-use Rattle.event_lists.proofs.Receipts.{change_none, done_none}
+use Rattle.event_lists.proofs.ReceiptLemmas.{change_none, done_none}
 use Rattle.event_lists.proofs.laws.nothing_changes_up_to_the_receipt.Goals as goal
 
 pub returns-clause-counts : goal.returns-clause-counts

@@ -1,4 +1,4 @@
-use Rattle.event_lists.proofs.Receipts.{open_none}
+use Rattle.event_lists.proofs.ReceiptLemmas.{open_none}
 use Rattle.event_lists.proofs.laws.nothing_is_open_between_the_passes.Goals as goal
 
 pub returns : goal.returns

@@ -1,4 +1,4 @@
-use Rattle.event_lists.proofs.Receipts.{quiet}
+use Rattle.event_lists.proofs.ReceiptLemmas.{quiet}
 use Rattle.event_lists.proofs.laws.receipts_are_quiet.Goals as goal
 
 pub returns : goal.returns

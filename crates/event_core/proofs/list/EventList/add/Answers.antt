@@ -3,8 +3,8 @@ use Rattle.std.proofs.lemmas.List.{length-reverse}
 use Rattle.event_lists.specs.declared.mark.Mark.{Mark}
 use Rattle.event_lists.specs.Legal.{May}
 use Rattle.event_lists.specs.Quiet.{Quiet}
-use Rattle.event_lists.proofs.Lists.{begins_refl}
-use Rattle.event_lists.proofs.Receipts.{quiet}
+use Rattle.event_lists.proofs.ListLemmas.{begins_refl}
+use Rattle.event_lists.proofs.ReceiptLemmas.{quiet}
 use Rattle.event_rules.specs.Listed.{on}
 use Rattle.event_rules.specs.Shown.{ShowsLane}
 use Rattle.event_core.specs.Kept.{max_events}

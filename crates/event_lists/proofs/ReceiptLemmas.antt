@@ -1,9 +1,9 @@
--- What a receipt tells, from its two passes.
+-- Lemmas that crates above use: what a receipt tells, from its two passes.
 use Rattle.std.proofs.Common.{inl, inr, ◌≡◌, ℕ, zero, suc, ◌<◌, false, List, [], ◌∷◌, refl, sym, ap, subst, arith}
 use Rattle.std.specs.Prelude.{Option, Some, None}
+use Rattle.app_core.specs.declared.label.Label.{Label}
 use Rattle.event_lists.specs.declared.event.Event.{Event}
 use Rattle.event_lists.specs.declared.event.Event.TheVariants.{Sent, TookMessage, TookTask, Handled, Submitted, Ran, Gave, Receipt as Receives}
-use Rattle.app_core.specs.declared.label.Label.{Label}
 use Rattle.event_lists.specs.declared.event.Parcel.{Parcel}
 use Rattle.event_lists.specs.declared.event.Parcel.TheVariants.{Give}
 use Rattle.event_lists.specs.declared.mark.Item.TheVariants.{Message, Task}
@@ -11,8 +11,6 @@ use Rattle.event_lists.specs.Counting.{Counting}
 use Rattle.event_lists.specs.Dues.{Dues, Carries, KeepsDue}
 use Rattle.event_lists.specs.declared.future.Future.{Future}
 use Rattle.event_lists.specs.Futures.{due_of, times_given}
-use Rattle.event_lists.proofs.Moments.{row_kept}
-use Rattle.event_lists.proofs.Kept.{due_given}
 use Rattle.event_lists.specs.declared.receipt.Receipt.{Receipt}
 use Rattle.event_lists.specs.declared.mark.Item.{Item}
 use Rattle.event_lists.specs.declared.mark.Mark.{Mark}
@@ -22,11 +20,16 @@ use Rattle.event_lists.specs.Fences.{row_of, IsComplete}
 use Rattle.event_lists.specs.Quiet.{Quiet}
 use Rattle.event_lists.specs.Laws.{Received, is_work}
 use Rattle.event_lists.specs.Legal.{Legal}
-use Rattle.event_lists.proofs.Lists.{legal_begins, begins_tail}
-use Rattle.event_lists.proofs.Waiting.{Holds, waiting, all_ended, made_now, made_waits, hand_waits, took_fresh}
+use Rattle.event_lists.proofs.Kept.{due_given}
+use Rattle.event_lists.proofs.ListLemmas.{legal_begins, begins_tail}
+use Rattle.event_lists.proofs.WaitingLemmas.{Holds, waiting, all_ended, made_now, made_waits, hand_waits}
+use Rattle.event_lists.proofs.ItemLemmas.{took_fresh}
 use Rattle.event_lists.proofs.Agreed.{settled, settled_end, rows_are_equal}
 use Rattle.event_lists.proofs.Cuts.{agreed, is_cut, all_handled, all_ran}
 use Rattle.event_lists.proofs.Given.{all_given}
+use Rattle.event_lists.proofs.FenceLemmas.{complete_lasts}
+pub use Rattle.event_lists.proofs.Cuts.{received, agreed}
+pub use Rattle.event_lists.proofs.Agreed.{rows_are_counts}
 
 same_pass : (d p pass : ℕ) → pass ≡ suc (suc d) → pass ≡ suc p → p ≡ suc d
 same_pass d p pass i j = omega arith
@@ -52,11 +55,6 @@ change_none (suc n) workers before x r p h at to done k q =
     let a = agreed (suc n) workers before x r h.legal h.is in
     let is = same_pass a.0 p r.pass a.1 h.last in
     (settled n workers r.fence a.0 before a.2 at to (subst (λ (z : ℕ). IsComplete (suc n) r.fence z at) is done)).counts_stay k q
-
-complete_since : (ranks workers f p : ℕ) (at log : List Mark) → Begins at log → Legal ranks workers log → IsComplete ranks f p at → IsComplete ranks f p log
-complete_since ranks workers f p at log b h done q c =
-    let row = done q c in
-    (row.0, subst (λ (z : List Mark). row_of f p (part (main_of q) z) ≡ Some row.0) (sym b.1) (row_kept ranks workers q b.0 at (subst (Legal ranks workers) b.1 h) f p row.0 row.1))
 
 -- where nothing waits, before an event and after it, it doesn't work
 idle : (ranks workers : ℕ) (log : List Mark) (y : Mark) → Legal ranks workers (y ∷ log) → ((c : Item) → Holds (waiting log) c → ⊥) → ((c : Item) → Holds (waiting (y ∷ log)) c → ⊥) → is_work y.event ≡ false
@@ -94,8 +92,8 @@ done_none (suc n) workers before x r p h at done y earlier from to =
     let is = same_pass a.0 p r.pass a.1 h.last in
     let now = legal_begins (suc n) workers (y ∷ earlier) before to h.legal.1 in
     let to_earlier = begins_tail y earlier before to in
-    let first = complete_since (suc n) workers r.fence p at earlier from now.1 done in
-    let second = complete_since (suc n) workers r.fence p earlier (y ∷ earlier) (y ∷ [], refl) now first in
+    let first = complete_lasts (suc n) workers at earlier now.1 from r.fence p done in
+    let second = complete_lasts (suc n) workers earlier (y ∷ earlier) now (y ∷ [], refl) r.fence p first in
     let s = settled n workers r.fence a.0 before a.2 earlier to_earlier (subst (λ (z : ℕ). IsComplete (suc n) r.fence z earlier) is first) in
     let t = settled n workers r.fence a.0 before a.2 (y ∷ earlier) to (subst (λ (z : ℕ). IsComplete (suc n) r.fence z (y ∷ earlier)) is second) in
     idle (suc n) workers earlier y now s.now t.now

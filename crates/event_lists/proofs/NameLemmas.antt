@@ -1,4 +1,4 @@
--- The labels in the name of a task and in a message are those of its needs and its due.
+-- Lemmas that crates above use: the labels in the name of a task and in a message are those of its needs and its due.
 use Rattle.std.proofs.Common.{◌≡◌, ℕ, Bool, true, false, List, [], ◌∷◌, refl, sym, ap, ◌∙◌, subst, inl, inr, arith}
 use Rattle.std.specs.Prelude.{if◌then◌else◌, Option, Some, None, map}
 use Rattle.app_core.specs.declared.label.Label.{Label}
@@ -18,8 +18,8 @@ use Rattle.event_lists.specs.Counting.{Counting, MaySpawn, MaySubmit}
 use Rattle.event_lists.specs.Dues.{Dues, KeepsDue, SubmitsFreely}
 use Rattle.event_lists.specs.Laws.{label_of, named_due}
 use Rattle.event_lists.specs.Legal.{Legal}
-use Rattle.event_lists.proofs.Lists.{is_item_some, some_is_item, made_here, new_item}
-use Rattle.event_lists.proofs.Owners.{same_label_true}
+use Rattle.event_lists.proofs.ItemLemmas.{is_item_some, some_is_item, made_here, new_item}
+use Rattle.event_lists.proofs.FutureLemmas.{same_label_true}
 
 own_name : (d : Label) (o : Option Future) → is_own d o ≡ true → label_of o ≡ Some d
 own_name d None e = absurd (cc)

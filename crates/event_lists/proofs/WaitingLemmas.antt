@@ -1,17 +1,17 @@
--- Counting: what was made is what ended and what waits, and what a lane has in hand waits.
+-- Lemmas that crates above use: what was made is what ended and what waits, and what a lane has in hand waits.
 use Rattle.std.proofs.Common.{◌≡◌, ◌≢◌, ◌⊎◌, ℕ, ◌+◌, ◌≤◌, Bool, true, false, List, [], ◌∷◌, refl, sym, ap, ◌∙◌, subst, inl, inr, ⊎_elim, arith}
 use Rattle.std.specs.Prelude.{if◌then◌else◌, Option, Some, None}
-use Rattle.std.proofs.lemmas.Bool.{both_ways, or_parts, or_right, or_left}
+use Rattle.std.proofs.lemmas.Bool.{both_ways}
 use Rattle.event_lists.specs.declared.lane.LaneName.{LaneName}
 use Rattle.event_lists.specs.declared.event.Event.{Event}
-use Rattle.event_lists.specs.declared.event.Event.TheVariants.{TookMessage, TookTask, Handled, Ran}
+use Rattle.event_lists.specs.declared.event.Event.TheVariants.{Handled, Ran}
 use Rattle.event_lists.specs.declared.mark.Item.{Item}
-use Rattle.event_lists.specs.declared.mark.Item.TheVariants.{Message, Task}
 use Rattle.event_lists.specs.declared.mark.Mark.{Mark}
-use Rattle.event_lists.specs.Events.{part, same_lane, same_item, is_item, makes, takes, ends, times_made, times_ended, is_taken, in_hand, hand_after}
-use Rattle.event_lists.specs.Counting.{Counting}
+use Rattle.event_lists.specs.Events.{part, same_item, is_item, makes, takes, ends, times_made, times_ended, is_taken, in_hand}
 use Rattle.event_lists.specs.Legal.{Legal}
-use Rattle.event_lists.proofs.Lists.{same_lane_true, same_lane_refl, one_if, same_item_true, same_item_refl, is_item_some, some_is_item, made_here, made_once}
+use Rattle.event_lists.proofs.CountLemmas.{one_if}
+use Rattle.event_lists.proofs.ItemLemmas.{same_item_true, same_item_refl, is_item_some, made_once, untaken, took_fresh}
+use Rattle.event_lists.proofs.HandLemmas.{hand_before, hand_taken, one_hand, ends_hand}
 
 abbrev pub Holds : List Item → Item → Type 0
 Holds [] c = ⊥
@@ -55,74 +55,6 @@ dropped_keeps (Some d) ds c a h = remove_other d c ds (λ e. a (ap Some e)) h
 
 keeps_waiting : (x : Mark) (log : List Mark) (c : Item) → (ends x.event ≡ Some c → ⊥) → Holds (waiting log) c → Holds (waiting (x ∷ log)) c
 keeps_waiting x log c a h = added_keeps (makes x.lane.rank x.event) _ c (dropped_keeps (ends x.event) (waiting log) c a h)
-
--- what is in hand was taken now, or was in hand and isn't ended on this lane now
-hand_event : (e : Event) (h : Option Item) (c : Item) → hand_after e h ≡ Some c → (takes e ≡ Some c) ⊎ ((h ≡ Some c) × (ends e ≡ None))
-hand_event (TookMessage r n) h c i = inl i
-hand_event (TookTask r n) h c i = inl i
-hand_event (Handled n r m) h c i = absurd (cc)
-hand_event (Ran n r t) h c i = absurd (cc)
-hand_event _ h c i = inr (i, refl)
-
-pub hand_before : (l : LaneName) (x : Mark) (log : List Mark) (c : Item) → in_hand (part l (x ∷ log)) ≡ Some c
-    → ((x.lane ≡ l) × (takes x.event ≡ Some c)) ⊎ ((in_hand (part l log) ≡ Some c) × (x.lane ≡ l → ends x.event ≡ None))
-hand_before l x log c h = step (same_lane x.lane l) refl h
-  where
-    step : (b : Bool) → same_lane x.lane l ≡ b → in_hand (if b then x.event ∷ part l log else part l log) ≡ Some c → ((x.lane ≡ l) × (takes x.event ≡ Some c)) ⊎ ((in_hand (part l log) ≡ Some c) × (x.lane ≡ l → ends x.event ≡ None))
-    step true e i = ⊎_elim (λ t. inl (same_lane_true x.lane l e, t)) (λ r. inr (r.0, λ _. r.1)) (hand_event x.event (in_hand (part l log)) c i)
-    step false e i = inr (i, λ (same : x.lane ≡ l). absurd (both_ways (same_lane x.lane l) e (subst (λ (m : LaneName). same_lane x.lane m ≡ true) same (same_lane_refl x.lane))))
-
-pub taken_here : (c : Item) (x : Mark) (log : List Mark) → takes x.event ≡ Some c → is_taken c (x ∷ log) ≡ true
-taken_here c x log t = or_left (is_item c (takes x.event)) (is_taken c log) (some_is_item c (takes x.event) t)
-
-pub taken_more : (c : Item) (x : Mark) (log : List Mark) → is_taken c log ≡ true → is_taken c (x ∷ log) ≡ true
-taken_more c x log t = or_right (is_item c (takes x.event)) (is_taken c log) t
-
-pub untaken : (c : Item) (x : Mark) (log : List Mark) → is_taken c (x ∷ log) ≡ false → is_taken c log ≡ false
-untaken c x log t = (or_parts (is_item c (takes x.event)) (is_taken c log) t).1
-
-pub hand_taken : (l : LaneName) (log : List Mark) (c : Item) → in_hand (part l log) ≡ Some c → is_taken c log ≡ true
-hand_taken l [] c h = absurd (cc)
-hand_taken l (x ∷ log) c h = ⊎_elim
-    (λ t. taken_here c x log t.1)
-    (λ r. taken_more c x log (hand_taken l log c r.0))
-    (hand_before l x log c h)
-
--- what an event takes was made and not taken
-pub took_fresh : (c : Item) (e : Event) (ranks : ℕ) (log : List Mark) (l : LaneName) (mine : List Event) → Counting ranks log l mine e → takes e ≡ Some c → (1 ≤ times_made c log) × (is_taken c log ≡ false)
-took_fresh c (TookMessage r n) ranks log l mine a t =
-    let is : Message r n ≡ c = cc in
-    let s = a.1.1 in
-    let made = made_here (Message r n) s.0 _ log (ap (λ (q : ℕ). Some (Message q n)) s.1) s.2 in
-    subst (λ (d : Item). (1 ≤ times_made d log) × (is_taken d log ≡ false)) is (made, a.2)
-took_fresh c (TookTask r n) ranks log l mine a t =
-    let is : Task r n ≡ c = cc in
-    let s = a.2.1 in
-    let made = made_here (Task r n) s.0 _ log (ap (λ (q : ℕ). Some (Task q n)) s.1) s.2 in
-    subst (λ (d : Item). (1 ≤ times_made d log) × (is_taken d log ≡ false)) is (made, a.3)
-took_fresh c e ranks log l mine a t = absurd (cc)
-
--- an item is in one hand
-pub one_hand : (ranks workers : ℕ) (log : List Mark) → Legal ranks workers log → (l m : LaneName) (c : Item) → in_hand (part l log) ≡ Some c → in_hand (part m log) ≡ Some c → l ≡ m
-one_hand ranks workers [] h l m c p q = absurd (cc)
-one_hand ranks workers (x ∷ log) h l m c p q =
-    let fresh = took_fresh c x.event ranks log x.lane (part x.lane log) h.0.counting in
-    ⊎_elim
-    (λ a. ⊎_elim
-    (λ b. sym a.0 ∙ b.0)
-    (λ b. absurd (both_ways (is_taken c log) (fresh a.1).1 (hand_taken m log c b.0)))
-    (hand_before m x log c q))
-    (λ a. ⊎_elim
-    (λ b. absurd (both_ways (is_taken c log) (fresh b.1).1 (hand_taken l log c a.0)))
-    (λ b. one_hand ranks workers log h.1 l m c a.0 b.0)
-    (hand_before m x log c q))
-    (hand_before l x log c p)
-
--- what an event ends was in the hand of its lane
-pub ends_hand : (e : Event) (c : Item) (ranks : ℕ) (log : List Mark) (l : LaneName) (mine : List Event) → Counting ranks log l mine e → ends e ≡ Some c → in_hand mine ≡ Some c
-ends_hand (Handled n r m) c ranks log l mine a e = a.1 ∙ e
-ends_hand (Ran n r t) c ranks log l mine a e = a.1 ∙ e
-ends_hand _ c ranks log l mine a e = absurd (cc)
 
 makes_or_made : (c : Item) (x : Mark) (log : List Mark) → 1 ≤ times_made c (x ∷ log) → (makes x.lane.rank x.event ≡ Some c) ⊎ (1 ≤ times_made c log)
 makes_or_made c x log m = go (is_item c (makes x.lane.rank x.event)) refl m
