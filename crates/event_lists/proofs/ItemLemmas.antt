@@ -1,6 +1,6 @@
 -- Lemmas that crates above use: messages and tasks, how often they are made and whether they are taken.
 use Rattle.std.proofs.Common.{◌≡◌, ◌⊎◌, ℕ, zero, suc, ◌+◌, ◌<◌, ◌≤◌, Bool, true, false, List, [], ◌∷◌, ◌++◌, refl, sym, ap, ◌∙◌, subst, inl, inr, ⊎_elim, arith}
-use Rattle.std.specs.Prelude.{◌==◌, Option, Some, None}
+use Rattle.std.specs.Prelude.{◌||◌, ◌==◌, Option, Some, None}
 use Rattle.std.proofs.lemmas.Bool.{and_parts, and_from, eqb-true, eq-eqb, both_ways, or_right, or_parts, or_left, or_cases, false_from_ne_true}
 use Rattle.event_lists.specs.declared.lane.LaneName.{LaneName}
 use Rattle.event_lists.specs.declared.event.Event.{Event}
@@ -161,12 +161,12 @@ untaken_never c (x ∷ log) t =
     let here : one_if (is_item c (takes x.event)) ≡ 0 = ap one_if p.0 in
     omega (arith, here, untaken_never c log p.1)
 
--- a message or task is taken at most once
-pub taken_once : (ranks workers : ℕ) (log : List Mark) → Legal ranks workers log → (c : Item) → times_taken c log ≤ 1
-taken_once ranks workers [] h c = omega arith
+-- a message or task is taken once, where it is taken
+pub taken_once : (ranks workers : ℕ) (log : List Mark) → Legal ranks workers log → (c : Item) → times_taken c log ≡ one_if (is_taken c log)
+taken_once ranks workers [] h c = refl
 taken_once ranks workers (x ∷ log) h c = go (is_item c (takes x.event)) refl (taken_once ranks workers log h.1 c)
   where
-    go : (b : Bool) → is_item c (takes x.event) ≡ b → times_taken c log ≤ 1 → one_if b + times_taken c log ≤ 1
+    go : (b : Bool) → is_item c (takes x.event) ≡ b → times_taken c log ≡ one_if (is_taken c log) → one_if b + times_taken c log ≡ one_if (b || is_taken c log)
     go true e rest = omega (arith, untaken_never c log (took_fresh c x.event ranks log x.lane (part x.lane log) h.0.counting (is_item_some c (takes x.event) e)).1)
     go false e rest = omega (arith, rest)
 
@@ -184,3 +184,11 @@ one_taker ranks workers (x ∷ log) h l m c (e, t, inl i) (d, u, inr s) =
 one_taker ranks workers (x ∷ log) h l m c (e, t, inr s) (d, u, inl j) =
     absurd (both_ways (is_taken c log) (took_fresh c x.event ranks log x.lane (part x.lane log) h.0.counting (ap takes j.1 ∙ u)).1 (taken_there l c log e t s))
 one_taker ranks workers (x ∷ log) h l m c (e, t, inr s) (d, u, inr r) = one_taker ranks workers log h.1 l m c (e, t, s) (d, u, r)
+
+-- what was taken was taken on a lane
+pub some_taker : (c : Item) (log : List Mark) → is_taken c log ≡ true → (l : LaneName) × IsTakenOn l c log
+some_taker c [] t = absurd (cc)
+some_taker c (x ∷ log) t = ⊎_elim
+    (λ here. (x.lane, (x.event, is_item_some c (takes x.event) here, inl (refl, refl))))
+    (λ before. let s = some_taker c log before in (s.0, (s.1.0, s.1.1, inr s.1.2)))
+    (or_cases (is_item c (takes x.event)) (is_taken c log) t)

@@ -1,6 +1,6 @@
 -- Lemmas that crates above use: what a lane's own events and what it has seen tell of the whole list.
 use Rattle.std.proofs.Common.{◌≡◌, ℕ, ◌≤◌, Bool, true, false, List, [], ◌∷◌, refl, sym, ap, ◌∙◌, subst, inl, inr, ⊎_elim, arith}
-use Rattle.std.specs.Prelude.{Option, Some, None, if◌then◌else◌, ◌&&◌, ◌||◌}
+use Rattle.std.specs.Prelude.{Option, Some, None, if◌then◌else◌, ◌&&◌, ◌||◌, ◌↔◌}
 use Rattle.std.specs.List.{list_any}
 use Rattle.std.proofs.lemmas.Bool.{and_parts, both_ways, false_from_ne_true}
 use Rattle.app_core.specs.declared.label.Label.{Label}
@@ -19,7 +19,7 @@ use Rattle.event_lists.specs.declared.kind.Kind.TheVariants.{Sends as sends, Han
 use Rattle.event_lists.specs.declared.future.Future.{Future}
 use Rattle.event_lists.specs.declared.future.Bringer.{Bringer}
 use Rattle.event_lists.specs.declared.future.Bringer.TheVariants.{Task as task_of, Main as main_at}
-use Rattle.event_lists.specs.Events.{same_lane, main_of, part, Begins, count, in_hand, times_made}
+use Rattle.event_lists.specs.Events.{same_lane, main_of, part, Begins, count, in_hand, makes, times_made}
 use Rattle.event_lists.specs.Counting.{Counting, MaySpawn, MaySubmit}
 use Rattle.event_lists.specs.Dues.{Dues, WasNoDue, DueIsFree, WasNotNeeded, NeedsAreFree, Carries, KeepsDue, SubmitsFreely, HasPassedOn, NeedsAreDues}
 use Rattle.event_lists.specs.Fences.{Fences, Reads, readings}
@@ -28,9 +28,9 @@ use Rattle.event_lists.specs.Legal.{Legal, May}
 use Rattle.event_lists.specs.OwnEvents.{SeesItsOwn, SpawnsFor, was_due_on_lane, was_needed_on_lane, NeedsAreDuesOnLane, HandAllows, is_reading, reading_event, IsNextReading, IsTakenOn}
 use Rattle.event_lists.proofs.LaneLemmas.{same_lane_true, same_lane_refl}
 use Rattle.event_lists.proofs.ListLemmas.{legal_begins, begins_refl, begins_tail, on_begins}
-use Rattle.event_lists.proofs.ItemLemmas.{one_taker}
+use Rattle.event_lists.proofs.ItemLemmas.{took_fresh, one_taker}
 use Rattle.event_lists.proofs.HandLemmas.{hand_made, hand_taken_on}
-use Rattle.event_lists.proofs.FutureLemmas.{same_bringer_true, gives_last, needs_last, due_lasts}
+use Rattle.event_lists.proofs.FutureLemmas.{same_bringer_true, same_bringer_refl, gives_last, needs_last, due_lasts}
 use Rattle.event_lists.proofs.FenceLemmas.{receipt_lasts, receivable_lasts, order_lasts, no_receipt_lasts}
 
 -- an item that was taken on a lane stays so
@@ -125,8 +125,8 @@ module _ (ranks workers : ℕ) (seen : List Mark) (legal : Legal ranks workers s
   pub need_here : (d : Label) → was_needed b d seen ≡ was_needed_on_lane l.rank b d (part l seen)
   need_here d = own_needs ranks workers seen legal l b spawns d seen (begins_refl seen)
 
-  pub needs_dues_here : NeedsAreDuesOnLane l.rank b (part l seen) → NeedsAreDues b seen
-  needs_dues_here n d t = due_here d ∙ n d (sym (need_here d) ∙ t)
+  pub needs_dues_here : NeedsAreDuesOnLane l.rank b (part l seen) ↔ NeedsAreDues b seen
+  needs_dues_here = ((λ n d t. due_here d ∙ n d (sym (need_here d) ∙ t)), (λ n d t. sym (due_here d) ∙ n d (need_here d ∙ t)))
 
 module _ (ranks workers : ℕ) (seen log : List Mark) (legal : Legal ranks workers log) (l : LaneName) (mine : List Event) (sees : SeesItsOwn seen log l mine) where
   seen_legal : Legal ranks workers seen
@@ -235,3 +235,40 @@ module _ (ranks workers : ℕ) (seen log : List Mark) (legal : Legal ranks worke
   fences_last (ReadSubmitted v f p) e a = absurd (cc)
   fences_last (ReadSent v f p) e a = absurd (cc)
   fences_last _ _ a = a
+
+-- an event that may come meets what it asks of its lane alone
+pub allowed : (ranks : ℕ) (log : List Mark) (l : LaneName) (mine : List Event) (e : Event) → Counting ranks log l mine e → Fences ranks log l mine e → HandAllows log l mine e
+allowed ranks log l mine (Sent n to p) a f = a.1
+allowed ranks log l mine (Submitted n t) a f = a.1
+allowed ranks log l mine (TookTask r n) a f = (took_fresh (Task r n) (TookTask r n) ranks log l mine a refl).0
+allowed ranks log l mine (Ran n r t) a f = a.1
+allowed ranks log l mine (Enter g) a f = (f.0, f.1)
+allowed ranks log l mine _ a f = tt
+
+-- where an event spawns, its lane spawns for the bringer
+pub makes_for : (ranks : ℕ) (log : List Mark) (l : LaneName) (mine : List Event) (e : Event) (c : Item) (b : Bringer) → Counting ranks log l mine e → makes l.rank e ≡ Some c → bringer l.rank (in_hand mine) ≡ Some b → SpawnsFor l (in_hand mine) b
+makes_for ranks log l mine (Sent n to p) c b a m i = (a.1, i)
+makes_for ranks log l mine (Submitted n t) c b a m i = (submit_spawns l b (in_hand mine) a.1 (ap (is_bringer b) i ∙ same_bringer_refl b), i)
+makes_for ranks log l mine e c b a m i = absurd (cc)
+
+pub reading_is_next : (ranks : ℕ) (log : List Mark) (l : LaneName) (mine : List Event) (k : Kind) (v f p : ℕ) → Fences ranks log l mine (reading_event k v f p) → IsNextReading ranks log l mine k f p
+reading_is_next ranks log l mine handlings v f p a = (a.1, a.2, a.3)
+reading_is_next ranks log l mine runs v f p a = (a.1, a.2, a.3)
+reading_is_next ranks log l mine submissions v f p a = (a.1, a.2, a.3)
+reading_is_next ranks log l mine sends v f p a = (a.1, a.2, a.3)
+
+pub reading_of : (e : Event) → (is_reading e ≡ true) ↔ ((k : Kind) × (v : ℕ) × (f : ℕ) × (p : ℕ) × (e ≡ reading_event k v f p))
+reading_of e = (there e, λ r. ap is_reading r.4 ∙ back r.0 r.1 r.2 r.3)
+  where
+    there : (e : Event) → is_reading e ≡ true → (k : Kind) × (v : ℕ) × (f : ℕ) × (p : ℕ) × (e ≡ reading_event k v f p)
+    there (ReadHandled v f p) t = (handlings, v, f, p, refl)
+    there (ReadRan v f p) t = (runs, v, f, p, refl)
+    there (ReadSubmitted v f p) t = (submissions, v, f, p, refl)
+    there (ReadSent v f p) t = (sends, v, f, p, refl)
+    there e t = absurd (cc)
+
+    back : (k : Kind) (v f p : ℕ) → is_reading (reading_event k v f p) ≡ true
+    back handlings v f p = refl
+    back runs v f p = refl
+    back submissions v f p = refl
+    back sends v f p = refl

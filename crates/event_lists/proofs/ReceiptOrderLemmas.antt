@@ -1,6 +1,6 @@
 -- Lemmas that crates above use: receipts stand on one lane, one for each fence, in order.
-use Rattle.std.proofs.Common.{◌≡◌, ◌≢◌, ◌⊎◌, ℕ, zero, suc, ◌≤◌, Bool, true, false, List, [], ◌∷◌, length, refl, sym, ap, ◌∙◌, subst, inl, inr, ⊎_elim, arith}
-use Rattle.std.specs.Prelude.{Option, Some, None, if◌then◌else◌, ◌==◌, ◌||◌}
+use Rattle.std.proofs.Common.{◌≡◌, ◌≢◌, ◌⊎◌, ℕ, suc, ◌<◌, ◌≤◌, Bool, true, false, List, [], ◌∷◌, refl, sym, ap, ◌∙◌, subst, inl, inr, ⊎_elim, arith}
+use Rattle.std.specs.Prelude.{Some, None, if◌then◌else◌, ◌==◌, ◌||◌, ◌↔◌}
 use Rattle.std.proofs.lemmas.Bool.{cases_eq, eq-eqb, eqb-true, or_cases, or_left, or_right, both_ways}
 use Rattle.event_lists.specs.declared.lane.LaneName.{LaneName}
 use Rattle.event_lists.specs.declared.event.Event.{Event}
@@ -10,7 +10,7 @@ use Rattle.event_lists.specs.declared.mark.Mark.{Mark}
 use Rattle.event_lists.specs.Events.{same_lane, main_of, part, StandsOn}
 use Rattle.event_lists.specs.Fences.{Fences, fence_in, enters, is_receipt, has_receipt}
 use Rattle.event_lists.specs.Legal.{Legal}
-use Rattle.event_lists.specs.OwnEvents.{has_receipt_on_lane, received_fences, down_from}
+use Rattle.event_lists.specs.OwnEvents.{has_receipt_on_lane}
 use Rattle.event_lists.proofs.LaneLemmas.{same_lane_true}
 use Rattle.event_lists.proofs.FenceLemmas.{receipt_lane, receipt_on}
 
@@ -41,34 +41,26 @@ one_receipt ranks workers (x ∷ log) h l m r s same (inr a) (inl b) =
     absurd (both_ways (has_receipt r.fence log) (ap (λ f. has_receipt f log) same ∙ first_receipt ranks log x.lane (part x.lane log) x.event s h.0.fences b.1) (receipt_stands l r log a))
 one_receipt ranks workers (x ∷ log) h l m r s same (inr a) (inr b) = one_receipt ranks workers log h.1 l m r s same a b
 
--- whether a number is in a list
-abbrev has_number : ℕ → List ℕ → Bool
-has_number f [] = false
-has_number f (n ∷ ns) = (n == f) || has_number f ns
-
-found_number : (f : ℕ) (es : List Event) → has_receipt_on_lane f es ≡ has_number f (received_fences es)
-found_number f [] = refl
-found_number f (Receives r ∷ es) = ap (λ z. (r.fence == f) || z) (found_number f es)
-found_number f (_ ∷ es) = found_number f es
-
-number_below : (f j : ℕ) → has_number f (down_from j) ≡ true → f ≤ j
-number_below f zero t = absurd (cc)
-number_below f (suc j) t = ⊎_elim
-    (λ e. let same = eqb-true (suc j) f e in omega (arith, same))
-    (λ r. omega (arith, number_below f j r))
-    (or_cases (suc j == f) (has_number f (down_from j)) t)
-
-below_number : (f j : ℕ) → 1 ≤ f → f ≤ j → has_number f (down_from j) ≡ true
-below_number f zero one low = absurd (omega arith)
-below_number f (suc j) one low = ⊎_elim
-    (λ (same : f ≡ suc j). or_left (suc j == f) (has_number f (down_from j)) (eq-eqb (suc j) f (sym same)))
-    (λ (apart : f ≢ suc j). or_right (suc j == f) (has_number f (down_from j)) (below_number f j one (omega arith)))
-    (cases_eq f (suc j))
+-- the fences that have a receipt among these events are those from 1 to n
+abbrev HasUpTo : ℕ → List Event → Type 0
+HasUpTo n es = (f : ℕ) → (has_receipt_on_lane f es ≡ true) ↔ ((1 ≤ f) × (f ≤ n))
 
 -- a main outside of its fences has the receipts of all that it entered; inside of one, at least of those before
 record InOrderSoFar (es : List Event) : Type 0 where
-  outside : fence_in es ≡ None → received_fences es ≡ down_from (enters es)
-  inside : (f : ℕ) → fence_in es ≡ Some f → (f ≡ enters es) × (1 ≤ f) × ((received_fences es ≡ down_from f) ⊎ ((j : ℕ) × (f ≡ suc j) × (received_fences es ≡ down_from j)))
+  outside : fence_in es ≡ None → HasUpTo (enters es) es
+  inside : (f : ℕ) → fence_in es ≡ Some f → (f ≡ enters es) × (1 ≤ f) × (HasUpTo f es ⊎ ((j : ℕ) × (f ≡ suc j) × HasUpTo j es))
+
+one_more : (r : Receipt) (j : ℕ) (es : List Event) → r.fence ≡ suc j → HasUpTo j es → HasUpTo (suc j) (Receives r ∷ es)
+one_more r j es is up f = (
+  (λ t. ⊎_elim
+      (λ here. let same = eqb-true r.fence f here in (omega (arith, is, same), omega (arith, is, same)))
+      (λ before. let b = (up f).0 before in (b.0, omega (arith, b.1)))
+      (or_cases (r.fence == f) (has_receipt_on_lane f es) t)),
+  (λ b. ⊎_elim
+      (λ (same : r.fence ≡ f). or_left (r.fence == f) (has_receipt_on_lane f es) (eq-eqb r.fence f same))
+      (λ (apart : r.fence ≢ f). or_right (r.fence == f) (has_receipt_on_lane f es) ((up f).1 (b.0, omega (arith, b.1, is, apart))))
+      (cases_eq r.fence f)),
+)
 
 order_step : (ranks : ℕ) (log : List Mark) (es : List Event) (e : Event) → Fences ranks log (main_of 0) es e → ((f : ℕ) → has_receipt f log ≡ has_receipt_on_lane f es) → InOrderSoFar es → InOrderSoFar (e ∷ es)
 order_step ranks log es (Enter f) a found h = record {
@@ -78,8 +70,8 @@ order_step ranks log es (Enter f) a found h = record {
 order_step ranks log es (Leave f) a found h = record {
   outside = λ i. let here = h.inside f a.0.2 in
       ⊎_elim
-      (λ all. all ∙ ap down_from here.0)
-      (λ w. absurd (omega (arith, w.1, number_below f w.0 (ap (has_number f) (sym w.2) ∙ sym (found_number f es) ∙ sym (found f) ∙ a.1))))
+      (λ all. subst (λ (n : ℕ). HasUpTo n es) here.0 all)
+      (λ w. absurd (omega (arith, w.1, ((w.2 f).0 (sym (found f) ∙ a.1)).1)))
       here.2;
   inside = λ g i. absurd (cc);
 }
@@ -92,15 +84,15 @@ order_step ranks log es (Receives r) a found h = record {
         sym same ∙ here.0,
         omega (arith, same, here.1),
         inl (⊎_elim
-            (λ all. absurd (both_ways (has_receipt r.fence log) a.2 (found r.fence ∙ found_number r.fence es ∙ ap (has_number r.fence) all ∙ below_number r.fence r.fence here.1 (omega arith))))
-            (λ w. ap (λ ns. r.fence ∷ ns) w.2 ∙ ap (λ n. n ∷ down_from w.0) w.1 ∙ ap down_from (sym w.1 ∙ same))
+            (λ all. absurd (both_ways (has_receipt r.fence log) a.2 (found r.fence ∙ (all r.fence).1 (here.1, omega arith))))
+            (λ w. subst (λ (n : ℕ). HasUpTo n (Receives r ∷ es)) (sym w.1 ∙ same) (one_more r w.0 es w.1 w.2))
             here.2),
       );
 }
 order_step ranks log es _ a found h = record { outside = h.outside; inside = h.inside }
 
 so_far : (ranks workers : ℕ) (log : List Mark) → Legal ranks workers log → InOrderSoFar (part (main_of 0) log)
-so_far ranks workers [] h = record { outside = λ i. refl; inside = λ f i. absurd (cc) }
+so_far ranks workers [] h = record { outside = λ i f. ((λ t. absurd (cc)), (λ b. absurd (omega (arith, b.0, b.1)))); inside = λ f i. absurd (cc) }
 so_far ranks workers (x ∷ log) h = go (so_far ranks workers log h.1) (same_lane x.lane (main_of 0)) refl
   where
     go : InOrderSoFar (part (main_of 0) log) → (b : Bool) → same_lane x.lane (main_of 0) ≡ b → InOrderSoFar (if b then x.event ∷ part (main_of 0) log else part (main_of 0) log)
@@ -109,20 +101,25 @@ so_far ranks workers (x ∷ log) h = go (so_far ranks workers log h.1) (same_lan
         order_step ranks log (part (main_of 0) log) x.event asks (λ f. receipt_on ranks workers log h.1 f) rest
     go rest false e = rest
 
-length_down : (n : ℕ) → length (down_from n) ≡ n
-length_down zero = refl
-length_down (suc n) = ap suc (length_down n)
-
--- the fences of the receipts are 1, 2, .., in this order
-pub receipts_in_order : (ranks workers : ℕ) (log : List Mark) → Legal ranks workers log → received_fences (part (main_of 0) log) ≡ down_from (length (received_fences (part (main_of 0) log)))
-receipts_in_order ranks workers log h = go (fence_in mine) refl
+-- when a fence gets its receipt, those below it have theirs, and no others
+pub receipts_in_order : (ranks workers : ℕ) (log : List Mark) (x : Mark) → Legal ranks workers (x ∷ log) → (r : Receipt) → x.event ≡ Receives r → (f : ℕ) → (has_receipt f log ≡ true) ↔ ((1 ≤ f) × (f < r.fence))
+receipts_in_order ranks workers log x h r i f = go (so_far ranks workers log h.1)
   where
-    mine : List Event
-    mine = part (main_of 0) log
+    asks : Fences ranks log x.lane (part x.lane log) (Receives r)
+    asks = subst (Fences ranks log x.lane (part x.lane log)) i h.0.fences
 
-    counted : (n : ℕ) → received_fences mine ≡ down_from n → received_fences mine ≡ down_from (length (received_fences mine))
-    counted n e = e ∙ ap down_from (sym (ap length e ∙ length_down n))
+    inside : fence_in (part (main_of 0) log) ≡ Some r.fence
+    inside = subst (λ (l : LaneName). fence_in (part l log) ≡ Some r.fence) asks.0 asks.1.2
 
-    go : (o : Option ℕ) → fence_in mine ≡ o → received_fences mine ≡ down_from (length (received_fences mine))
-    go None i = counted (enters mine) ((so_far ranks workers log h).outside i)
-    go (Some f) i = ⊎_elim (λ e. counted f e) (λ w. counted w.0 w.2) ((so_far ranks workers log h).inside f i).2
+    found : has_receipt f log ≡ has_receipt_on_lane f (part (main_of 0) log)
+    found = receipt_on ranks workers log h.1 f
+
+    go : InOrderSoFar (part (main_of 0) log) → (has_receipt f log ≡ true) ↔ ((1 ≤ f) × (f < r.fence))
+    go so = let here = so.inside r.fence inside in
+        ⊎_elim
+        (λ all. absurd (both_ways (has_receipt r.fence log) asks.2 (receipt_on ranks workers log h.1 r.fence ∙ (all r.fence).1 (here.1, omega arith))))
+        (λ w. (
+          (λ t. let b = (w.2 f).0 (sym found ∙ t) in (b.0, omega (arith, b.1, w.1))),
+          (λ b. found ∙ (w.2 f).1 (b.0, omega (arith, b.1, w.1))),
+        ))
+        here.2

@@ -1,5 +1,5 @@
 -- What lasts as a legal list grows, and what a lane's own part of it decides.
-use Rattle.std.specs.Prelude.{◌≡◌, ℕ, suc, ◌*◌, ◌<◌, ◌≤◌, true, false, List, ◌∷◌, Some, length}
+use Rattle.std.specs.Prelude.{◌≡◌, ◌↔◌, if◌then◌else◌, ℕ, suc, ◌*◌, ◌<◌, ◌≤◌, true, false, List, ◌∷◌, Some, length}
 use Rattle.app_core.specs.declared.label.Label.{Label}
 use Rattle.event_lists.specs.declared.lane.LaneName.{LaneName}
 use Rattle.event_lists.specs.declared.event.Event.{Event}
@@ -14,12 +14,12 @@ use Rattle.event_lists.specs.declared.kind.Kind.{Kind}
 use Rattle.event_lists.specs.declared.future.Bringer.{Bringer}
 use Rattle.event_lists.specs.declared.future.Future.{Future}
 use Rattle.event_lists.specs.Events.{main_of, part, Begins, StandsOn, number, count, makes, takes, times_made, is_taken, in_hand, IsSent, IsSubmitted}
-use Rattle.event_lists.specs.Futures.{due_of, needs_of, was_due, was_needed, times_given}
+use Rattle.event_lists.specs.Futures.{bringer, due_of, needs_of, was_due, was_needed, times_given}
 use Rattle.event_lists.specs.Counting.{Counting}
 use Rattle.event_lists.specs.Dues.{Dues, NeedsAreDues}
 use Rattle.event_lists.specs.Fences.{Fences, row_of, IsComplete, has_receipt, sum_ranks, total_sent, total_handled}
 use Rattle.event_lists.specs.Legal.{Legal}
-use Rattle.event_lists.specs.OwnEvents.{SeesItsOwn, SpawnsFor, was_due_on_lane, was_needed_on_lane, NeedsAreDuesOnLane, has_receipt_on_lane, received_fences, down_from, HandAllows, is_reading, reading_event, IsNextReading, IsTakenOn, times_taken, hand_of}
+use Rattle.event_lists.specs.OwnEvents.{SeesItsOwn, SpawnsFor, was_due_on_lane, was_needed_on_lane, NeedsAreDuesOnLane, has_receipt_on_lane, HandAllows, is_reading, reading_event, IsNextReading, IsTakenOn, times_taken, hand_of}
 
 -- made and taken once
 
@@ -36,13 +36,18 @@ abbrev pub WhatIsTakenWaits : Type 0
 WhatIsTakenWaits =
     (ranks : ℕ) (log : List Mark) (l : LaneName) (mine : List Event) (e : Event) → Counting ranks log l mine e → (c : Item) → takes e ≡ Some c → (1 ≤ times_made c log) × (is_taken c log ≡ false)
 
--- what a lane has in hand was made and taken
+-- what a lane has in hand was made and taken, on this lane
 abbrev pub HandsAreTaken : Type 0
 HandsAreTaken =
-    (ranks workers : ℕ) (log : List Mark) → Legal ranks workers log → (l : LaneName) (c : Item) → in_hand (part l log) ≡ Some c → (1 ≤ times_made c log) × (is_taken c log ≡ true)
+    (ranks workers : ℕ) (log : List Mark) → Legal ranks workers log → (l : LaneName) (c : Item) → in_hand (part l log) ≡ Some c → (1 ≤ times_made c log) × (is_taken c log ≡ true) × IsTakenOn l c log
 
+-- a message or task was taken once, or not at all
 abbrev pub ItemsAreTakenOnce : Type 0
-ItemsAreTakenOnce = (ranks workers : ℕ) (log : List Mark) → Legal ranks workers log → (c : Item) → times_taken c log ≤ 1
+ItemsAreTakenOnce = (ranks workers : ℕ) (log : List Mark) → Legal ranks workers log → (c : Item) → times_taken c log ≡ (if is_taken c log then 1 else 0)
+
+-- what was taken was taken on a lane
+abbrev pub TakenItemsHaveTakers : Type 0
+TakenItemsHaveTakers = (log : List Mark) (c : Item) → is_taken c log ≡ true → (l : LaneName) × IsTakenOn l c log
 
 -- lanes that took one item are one
 abbrev pub TakersAreOne : Type 0
@@ -135,7 +140,7 @@ NeedsAreOwn =
 abbrev pub NeedsAndDuesAreOwn : Type 0
 NeedsAndDuesAreOwn =
     (ranks workers : ℕ) (log : List Mark) → Legal ranks workers log → (l : LaneName) (b : Bringer) → SpawnsFor l (in_hand (part l log)) b
-    → NeedsAreDuesOnLane l.rank b (part l log) → NeedsAreDues b log
+    → NeedsAreDuesOnLane l.rank b (part l log) ↔ NeedsAreDues b log
 
 -- a receipt is on the lane of rank 0's main
 abbrev pub ReceiptsAreOwn : Type 0
@@ -145,9 +150,10 @@ ReceiptsAreOwn = (ranks workers : ℕ) (log : List Mark) → Legal ranks workers
 abbrev pub ReceiptsAreFound : Type 0
 ReceiptsAreFound = (ranks workers : ℕ) (log : List Mark) → Legal ranks workers log → (f : ℕ) → has_receipt f log ≡ has_receipt_on_lane f (part (main_of 0) log)
 
--- the fences of its receipts are 1, 2, .., in this order
+-- when a fence gets its receipt, the fences below it have theirs, and no others
 abbrev pub ReceiptsAreInOrder : Type 0
-ReceiptsAreInOrder = (ranks workers : ℕ) (log : List Mark) → Legal ranks workers log → received_fences (part (main_of 0) log) ≡ down_from (length (received_fences (part (main_of 0) log)))
+ReceiptsAreInOrder =
+    (ranks workers : ℕ) (log : List Mark) (x : Mark) → Legal ranks workers (x ∷ log) → (r : Receipt) → x.event ≡ Receives r → (f : ℕ) → (has_receipt f log ≡ true) ↔ ((1 ≤ f) × (f < r.fence))
 
 -- receipts of one fence are one
 abbrev pub ReceiptsAreOne : Type 0
@@ -170,3 +176,25 @@ abbrev pub ReadingsLast : Type 0
 ReadingsLast =
     (ranks workers : ℕ) (seen log : List Mark) → Legal ranks workers log → (l : LaneName) (mine : List Event) → SeesItsOwn seen log l mine
     → (k : Kind) (f p : ℕ) → IsNextReading ranks seen l mine k f p → Fences ranks log l mine (reading_event k (count k l.rank log) f p)
+
+-- and an event that came has met what it asks of its lane alone
+
+-- a lane has seen its own events in the list itself
+abbrev pub EachSeesItsOwn : Type 0
+EachSeesItsOwn = (log : List Mark) (l : LaneName) → SeesItsOwn log log l (part l log)
+
+abbrev pub HandsAllow : Type 0
+HandsAllow = (ranks workers : ℕ) (log : List Mark) (x : Mark) → Legal ranks workers (x ∷ log) → HandAllows log x.lane (part x.lane log) x.event
+
+-- who makes a message or task spawns, but for a message in hand
+abbrev pub MakersSpawn : Type 0
+MakersSpawn =
+    (ranks workers : ℕ) (log : List Mark) (x : Mark) → Legal ranks workers (x ∷ log) → (c : Item) (b : Bringer) → makes x.lane.rank x.event ≡ Some c
+    → bringer x.lane.rank (in_hand (part x.lane log)) ≡ Some b → SpawnsFor x.lane (in_hand (part x.lane log)) b
+
+abbrev pub ReadingsAreNext : Type 0
+ReadingsAreNext =
+    (ranks workers : ℕ) (log : List Mark) (x : Mark) → Legal ranks workers (x ∷ log) → (k : Kind) (v f p : ℕ) → x.event ≡ reading_event k v f p → IsNextReading ranks log x.lane (part x.lane log) k f p
+
+abbrev pub ReadingsAreEvents : Type 0
+ReadingsAreEvents = (e : Event) → (is_reading e ≡ true) ↔ ((k : Kind) × (v : ℕ) × (f : ℕ) × (p : ℕ) × (e ≡ reading_event k v f p))

@@ -1,11 +1,11 @@
 -- What a lane's own events tell of the whole list, and what an event asks of its lane alone.
-use Rattle.std.specs.Prelude.{◌≡◌, ℕ, zero, suc, ◌+◌, ◌≤◌, Bool, true, false, ◌&&◌, ◌||◌, if◌then◌else◌, List, [], ◌∷◌, Option, Some, None}
+use Rattle.std.specs.Prelude.{◌≡◌, ℕ, suc, ◌+◌, ◌≤◌, Bool, true, false, ◌&&◌, ◌||◌, if◌then◌else◌, List, [], ◌∷◌, Option, Some, None}
 use Rattle.std.specs.List.{list_any}
 use Rattle.app_core.specs.declared.label.Label.{Label}
 use Rattle.app_core.specs.Outlines.{is_due, same_label}
 use Rattle.event_lists.specs.declared.lane.LaneName.{LaneName}
 use Rattle.event_lists.specs.declared.event.Event.{Event}
-use Rattle.event_lists.specs.declared.event.Event.TheVariants.{Sent, TookTask, Submitted, Ran, ReadHandled, ReadRan, ReadSubmitted, ReadSent, Enter, Receipt as Receives}
+use Rattle.event_lists.specs.declared.event.Event.TheVariants.{Sent, TookTask, Submitted, Ran, ReadHandled, ReadRan, ReadSubmitted, ReadSent, Enter}
 use Rattle.event_lists.specs.declared.mark.Item.{Item}
 use Rattle.event_lists.specs.declared.mark.Item.TheVariants.{Task}
 use Rattle.event_lists.specs.declared.mark.Mark.{Mark}
@@ -45,17 +45,6 @@ NeedsAreDuesOnLane r b mine = (d : Label) → was_needed_on_lane r b d mine ≡ 
 abbrev pub has_receipt_on_lane : ℕ → List Event → Bool
 has_receipt_on_lane f [] = false
 has_receipt_on_lane f (e ∷ es) = is_receipt f e || has_receipt_on_lane f es
-
--- the fences of the receipts among these events
-abbrev pub received_fences : List Event → List ℕ
-received_fences [] = []
-received_fences (Receives r ∷ es) = r.fence ∷ received_fences es
-received_fences (_ ∷ es) = received_fences es
-
--- n, .., 2, 1
-abbrev pub down_from : ℕ → List ℕ
-down_from zero = []
-down_from (suc n) = suc n ∷ down_from n
 
 -- what an event asks of what its lane has in hand; and a task that is taken was submitted
 abbrev pub HandAllows : List Mark → LaneName → List Event → Event → Type 0

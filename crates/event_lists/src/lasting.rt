@@ -1,6 +1,6 @@
 //! Laws about how legal lists grow: what is made and taken once, what lasts, and what a lane's own part decides. Each
 //! function's contract is a law, and its body is empty.
-ghost use Rattle.event_lists.specs.LastingLaws.{ItemsAreMadeOnce, WhatIsMadeIsNew, WhatIsTakenWaits, HandsAreTaken, ItemsAreTakenOnce, TakersAreOne, NumbersAreBelowCounts, NumbersNameEvents, CountsAreBelowLengths, CountsAreBounded, EventsLast, MessagesLast, SubmissionsLast, TakesLast, GivesLast, CountsLast, ReceiptsLast, DuesOfItemsLast, NeedsOfItemsLast, RowsLast, PassesLast, SentSumsLast, HandledSumsLast, DuesAreOwn, NeedsAreOwn, NeedsAndDuesAreOwn, ReceiptsAreOwn, ReceiptsAreFound, ReceiptsAreInOrder, ReceiptsAreOne, DuesLast, FencesLast, ReadingsLast};
+ghost use Rattle.event_lists.specs.LastingLaws.{ItemsAreMadeOnce, WhatIsMadeIsNew, WhatIsTakenWaits, HandsAreTaken, ItemsAreTakenOnce, TakenItemsHaveTakers, TakersAreOne, NumbersAreBelowCounts, NumbersNameEvents, CountsAreBelowLengths, CountsAreBounded, EventsLast, MessagesLast, SubmissionsLast, TakesLast, GivesLast, CountsLast, ReceiptsLast, DuesOfItemsLast, NeedsOfItemsLast, RowsLast, PassesLast, SentSumsLast, HandledSumsLast, DuesAreOwn, NeedsAreOwn, NeedsAndDuesAreOwn, ReceiptsAreOwn, ReceiptsAreFound, ReceiptsAreInOrder, ReceiptsAreOne, DuesLast, FencesLast, ReadingsLast, EachSeesItsOwn, HandsAllow, MakersSpawn, ReadingsAreNext, ReadingsAreEvents};
 
 /// A message or task is made at most once: what an event makes was neither made nor taken before.
 pub fn items_are_made_once()
@@ -9,10 +9,11 @@ pub fn items_are_made_once()
 {}
 
 /// A message or task is taken at most once, on one lane. What an event may take was made and not taken; what a lane has
-/// in hand was made and taken.
+/// in hand was made, and taken on this lane.
 pub fn items_are_taken_once()
     ensures once { ItemsAreTakenOnce }
-    ensures taker { TakersAreOne }
+    ensures some_taker { TakenItemsHaveTakers }
+    ensures one_taker { TakersAreOne }
     ensures waits { WhatIsTakenWaits }
     ensures hands { HandsAreTaken }
 {}
@@ -77,4 +78,14 @@ pub fn conditions_last()
     ensures dues { DuesLast }
     ensures fences { FencesLast }
     ensures readings { ReadingsLast }
+{}
+
+/// An event that came has met what it asks of its lane alone: what the lane had in hand allowed it, a lane that spawned
+/// did so for its bringer, and a reading was the next.
+pub fn conditions_were_met()
+    ensures sees { EachSeesItsOwn }
+    ensures hands { HandsAllow }
+    ensures spawners { MakersSpawn }
+    ensures next { ReadingsAreNext }
+    ensures readings { ReadingsAreEvents }
 {}

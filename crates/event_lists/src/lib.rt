@@ -20,9 +20,9 @@ pub use future::{Bringer, Future};
 pub use kind::{Kind, Reading};
 pub use lane::LaneName;
 pub use lasting::{
-    conditions_last, counts_are_below_lengths, dues_and_needs_of_items_last, events_last,
-    items_are_made_once, items_are_taken_once, numbers_are_below_counts, receipts_are_own,
-    rows_last, spawns_are_own,
+    conditions_last, conditions_were_met, counts_are_below_lengths, dues_and_needs_of_items_last,
+    events_last, items_are_made_once, items_are_taken_once, numbers_are_below_counts,
+    receipts_are_own, rows_last, spawns_are_own,
 };
 pub use laws::{
     a_run_with_tasks_is_judged, beginnings_are_legal, counts_are_frozen,

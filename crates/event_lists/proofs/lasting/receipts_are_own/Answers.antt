@@ -9,7 +9,7 @@ pub returns-clause-found : goal.returns-clause-found
 returns-clause-found c = λ ranks workers log h f. receipt_on ranks workers log h f
 
 pub returns-clause-order : goal.returns-clause-order
-returns-clause-order c = λ ranks workers log h. receipts_in_order ranks workers log h
+returns-clause-order c = λ ranks workers log x h r i f. receipts_in_order ranks workers log x h r i f
 
 pub returns-clause-one : goal.returns-clause-one
 returns-clause-one c = λ ranks workers log h l m r s e a b. one_receipt ranks workers log h l m r s e a b

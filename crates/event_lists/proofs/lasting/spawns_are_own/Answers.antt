@@ -8,4 +8,4 @@ pub returns-clause-needs : goal.returns-clause-needs
 returns-clause-needs c = λ ranks workers log h l b s d old begins. own_needs ranks workers log h l b s d old begins
 
 pub returns-clause-needs_and_dues : goal.returns-clause-needs_and_dues
-returns-clause-needs_and_dues c = λ ranks workers log h l b s n. needs_dues_here ranks workers log h l b s n
+returns-clause-needs_and_dues c = λ ranks workers log h l b s. needs_dues_here ranks workers log h l b s
