@@ -1,5 +1,5 @@
--- Where a label tells its bringer, no label is brought up by two; and where an entry has one unit that puts or erases it,
--- no two begun tasks do.
+-- Lemmas that crates above use: where a label tells its bringer, no label is brought up by two; and where an entry has
+-- one unit that puts or erases it, no two begun tasks do.
 use Rattle.std.proofs.Common.{◌≡◌, ℕ, Bool, true, false, List, [], ◌∷◌, ◌++◌, refl, sym, ap, ◌∙◌, subst}
 use Rattle.std.specs.Prelude.{if◌then◌else◌, ◌==◌, Option, Some, None, slice_get, Contains}
 use Rattle.std.specs.Option.{option_to_list}

@@ -1,5 +1,5 @@
--- Where an eraser waits for a future that is given after the put, each entry that a begun task erases was put before the
--- task was taken.
+-- Lemmas that crates above use: where an eraser waits for a future that is given after the put, each entry that a begun
+-- task erases was put before the task was taken.
 use Rattle.std.proofs.Common.{◌≡◌, ℕ, List, [], ◌∷◌, refl, sym, ap, ◌∙◌, subst, inl, inr, ⊎_elim, arith}
 use Rattle.std.specs.Prelude.{Option, Some, Contains, map}
 use Rattle.app_core.specs.declared.label.Label.{Label}

@@ -1,4 +1,4 @@
--- The places of a program that the commands make.
+-- Lemmas that crates above use: the places of a program that the commands make.
 use Rattle.std.proofs.Common.{◌≡◌, ◌⊎◌, ℕ, zero, suc, ◌+◌, List, [], ◌∷◌, ◌++◌, refl, sym, ap, ◌∙◌, subst, inl, inr, ⊎_elim, arith}
 use Rattle.std.specs.Prelude.{Some, map, take, slice_get}
 use Rattle.app_core.specs.declared.label.Label.{Label}

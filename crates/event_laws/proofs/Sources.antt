@@ -1,4 +1,4 @@
--- Where the labels of units form a tree, no two spawns have one unit label.
+-- Lemmas that crates above use: where the labels of units form a tree, no two spawns have one unit label.
 use Rattle.std.proofs.Common.{◌≡◌, ℕ, zero, suc, ◌+◌, ◌≤◌, Bool, true, false, List, [], ◌∷◌, ◌++◌, refl, sym, ap, ◌∙◌, subst, ⊎_elim, arith}
 use Rattle.std.specs.Prelude.{if◌then◌else◌, ◌==◌, Option, Some, None, slice_get}
 use Rattle.std.specs.Option.{option_to_list}

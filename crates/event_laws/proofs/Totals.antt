@@ -1,4 +1,4 @@
--- What a receipt counts, where the application's units are known.
+-- Lemmas that crates above use: what a receipt counts, where the application's units are known.
 use Rattle.std.proofs.Common.{◌≡◌, ℕ, zero, suc, ◌+◌, ◌<◌, true, List, [], ◌∷◌, length, refl, sym, ap, ◌∙◌, subst, arith}
 use Rattle.std.specs.Prelude.{Some, take, slice_get, Contains}
 use Rattle.app_core.specs.declared.label.Label.{Label}

@@ -1,4 +1,4 @@
--- Where an application's units are known, so is what they have done at a receipt.
+-- Lemmas that crates above use: where an application's units are known, so is what they have done at a receipt.
 use Rattle.std.proofs.Common.{◌≡◌, ◌⊎◌, ℕ, ◌<◌, true, List, refl, sym, ap, ◌∙◌, subst, inl, inr, arith}
 use Rattle.std.specs.Prelude.{◌↔◌, Some, slice_get, Contains}
 use Rattle.app_core.specs.declared.label.Label.{Label}

@@ -1,4 +1,4 @@
--- Lemmas that crates above use: rows, completed passes and receipts last, and receipts stand on one lane.
+-- Lemmas that crates above use: rows, completed passes and receipts last, and receipts are on one lane.
 use Rattle.std.proofs.Common.{◌≡◌, ℕ, suc, ◌<◌, Bool, true, false, List, [], ◌∷◌, ◌++◌, refl, sym, ap, ◌∙◌, subst}
 use Rattle.std.specs.Prelude.{Some, if◌then◌else◌, ◌||◌}
 use Rattle.std.proofs.lemmas.Bool.{or_right, both_ways, false_from_ne_true}

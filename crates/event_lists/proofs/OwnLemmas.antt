@@ -37,7 +37,7 @@ use Rattle.event_lists.proofs.FenceLemmas.{receipt_lasts, receivable_lasts, orde
 taken_on_lasts : (old log : List Mark) → Begins old log → (l : LaneName) (c : Item) → IsTakenOn l c old → IsTakenOn l c log
 taken_on_lasts old log b l c (e, t, s) = (e, t, on_begins l e old log b s)
 
--- the spawns of a bringer stand on the lane that spawns for it
+-- the spawns of a bringer are on the lane that spawns for it
 spawn_on : (ranks workers : ℕ) (end : List Mark) → Legal ranks workers end → (l : LaneName) (b : Bringer) → SpawnsFor l (in_hand (part l end)) b
     → (x : Mark) (at : List Mark) → Begins (x ∷ at) end → MaySpawn x.lane (in_hand (part x.lane at)) → is_bringer b (bringer x.lane.rank (in_hand (part x.lane at))) ≡ true → x.lane ≡ l
 spawn_on ranks workers end legal l b spawns x at beg may is = go (in_hand (part x.lane at)) refl may is (in_hand (part l end)) refl spawns

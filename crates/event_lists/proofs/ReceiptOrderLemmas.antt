@@ -1,6 +1,6 @@
--- Lemmas that crates above use: receipts stand on one lane, one for each fence, in order.
+-- Lemmas that crates above use: receipts are on one lane, one for each fence, in order.
 use Rattle.std.proofs.Common.{◌≡◌, ◌≢◌, ◌⊎◌, ℕ, suc, ◌<◌, ◌≤◌, Bool, true, false, List, [], ◌∷◌, refl, sym, ap, ◌∙◌, subst, inl, inr, ⊎_elim, arith}
-use Rattle.std.specs.Prelude.{Some, None, if◌then◌else◌, ◌==◌, ◌||◌, ◌↔◌}
+use Rattle.std.specs.Prelude.{Some, None, if◌then◌else◌, ◌==◌, ◌↔◌}
 use Rattle.std.proofs.lemmas.Bool.{cases_eq, eq-eqb, eqb-true, or_cases, or_left, or_right, both_ways}
 use Rattle.event_lists.specs.declared.lane.LaneName.{LaneName}
 use Rattle.event_lists.specs.declared.event.Event.{Event}

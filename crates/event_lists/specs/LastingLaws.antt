@@ -123,9 +123,9 @@ abbrev pub HandledSumsLast : Type 0
 HandledSumsLast =
     (ranks workers : ℕ) (old log : List Mark) → Legal ranks workers log → Begins old log → (f p : ℕ) → IsComplete ranks f p old → total_handled ranks f p log ≡ total_handled ranks f p old
 
--- spawns and receipts stand on one lane
+-- spawns and receipts are on one lane
 
--- the spawns of the task in hand, or of a main with nothing in hand, stand on its lane, at each beginning of the list
+-- the spawns of the task in hand, or of a main with nothing in hand, are on its lane, at each beginning of the list
 abbrev pub DuesAreOwn : Type 0
 DuesAreOwn =
     (ranks workers : ℕ) (log : List Mark) → Legal ranks workers log → (l : LaneName) (b : Bringer) → SpawnsFor l (in_hand (part l log)) b

@@ -17,7 +17,7 @@ use Rattle.event_lists.specs.Futures.{bringer, is_bringer, spawned_due, spawned_
 use Rattle.event_lists.specs.Counting.{MaySpawn, MaySubmit}
 use Rattle.event_lists.specs.Fences.{is_receipt, readings, passes, IsIdleIn, InOrder}
 
--- a lane has seen a beginning of the whole list, in which all of its own events stand
+-- a lane has seen a beginning of the whole list that has all of the lane's own events
 pub record SeesItsOwn (seen log : List Mark) (l : LaneName) (mine : List Event) : Type 0 where
   pub begins : Begins seen log
   pub own : part l seen ≡ mine

@@ -56,7 +56,7 @@ pub fn rows_last()
     ensures handled { HandledSumsLast }
 {}
 
-/// The spawns of the task in hand, or of a main with nothing in hand, stand on its own lane: so the lane's own events
+/// The spawns of the task in hand, or of a main with nothing in hand, are on its own lane: so the lane's own events
 /// tell with which dues and needs it spawned.
 pub fn spawns_are_own()
     ensures dues { DuesAreOwn }
@@ -64,7 +64,7 @@ pub fn spawns_are_own()
     ensures needs_and_dues { NeedsAndDuesAreOwn }
 {}
 
-/// Receipts stand on the lane of rank 0's main alone, one for each fence, in the order of the fences.
+/// Receipts are on the lane of rank 0's main alone, one for each fence, in the order of the fences.
 pub fn receipts_are_own()
     ensures lane { ReceiptsAreOwn }
     ensures found { ReceiptsAreFound }

@@ -1,4 +1,4 @@
--- Sums of two products, as the code has them.
+-- Lemmas that crates above use: sums of two products, as the code has them.
 use Rattle.std.proofs.Common.{◌≡◌, ◌^◌, ◌≤◌, w64, ℤ, ◌+ℤ◌, ◌*ℤ◌, arith}
 use Rattle.std.specs.Int.RustNames.{FitsSigned, unsigned_abs}
 use Rattle.std.proofs.lemmas.Int.{ints, to_z-of_z}

@@ -1,4 +1,4 @@
--- Where no place passes a test.
+-- Lemmas that crates above use: where no place passes a test.
 use Rattle.std.proofs.Common.{◌≡◌, ℕ, ◌≤◌, Bool, true, false, List, length, cond, refl, sym, arith}
 use Rattle.std.specs.Prelude.{Some, None, nat_lt, position, not, All}
 use Rattle.std.specs.List.{position_or_len}

@@ -1,4 +1,4 @@
--- Words of printable bytes, on lines with single spaces.
+-- Lemmas that crates above use: words of printable bytes, on lines with single spaces.
 use Rattle.std.proofs.Common.{◌≡◌, ℕ, zero, suc, ◌+◌, ◌<◌, ◌≤◌, ◌-◌, ◌^◌, Bool, true, false, List, [], ◌∷◌, ◌++◌, length, get_or, refl, sym, ◌∙◌, ap, subst, arith, append-nil, ◌%◌, ℤ, pos, negsuc, lit<, lit≤}
 use Rattle.std.specs.Prelude.{All, ◌==◌, ◌&&◌, ◌||◌, nat_lt, nat_le, filter, decimal, slice_index, Some}
 use Rattle.std.specs.Fmt.{signed_decimal}

@@ -1,4 +1,4 @@
--- Parents, children and ancestors.
+-- Lemmas that crates above use: parents, children and ancestors.
 use Rattle.std.proofs.Common.{◌≡◌, ℕ, ◌+◌, ◌-◌, ◌*◌, ◌/◌, ◌%◌, ◌^◌, ◌<◌, ◌≤◌, Bool, true, false, cond, eqb, Some, ap, sym, ◌∙◌, subst, arith, refl, ne_eqb, eqb-true, inl, inr}
 use Rattle.std.proofs.lemmas.Bool.{cond_both, cases_Bool, eqb-false}
 use Rattle.std.proofs.lemmas.Nat.{shr_below}

@@ -1,4 +1,4 @@
--- The order of keys, and their places.
+-- Lemmas that crates above use: the order of keys, and their places.
 use Rattle.std.proofs.Common.{◌≡◌, ℕ, ◌+◌, ◌^◌, ◌<◌, ◌⊎◌, inl, inr, Ordering, Less, Equal, Greater, nat_cmp, ap, sym, ◌∙◌, arith, refl, rules, lit<, lt-ltb}
 use Rattle.std.specs.Ordering.{ordering_then}
 use Rattle.std.specs.Cmp.{IsTotalOrder}

@@ -1,4 +1,5 @@
--- The trees that commands make: a tree is constant below its leaves, and so is what is made of it.
+-- Lemmas that crates above use: the trees that commands make: a tree is constant below its leaves, and so is what is
+-- made of it.
 use Rattle.std.proofs.Common.{◌≡◌, ℕ, zero, suc, ◌+◌, ◌-◌, ◌*◌, ◌/◌, ◌^◌, ◌<◌, ◌≤◌, inl, inr, Bool, true, false, cond, ltb, leb, eqb, ne_eqb, Some, refl, sym, ◌∙◌, ap, subst, arith}
 use Rattle.std.proofs.lemmas.Bool.{cases_Bool, and_parts, and_from, ltb-true, lt-ltb, leb-true, le-leb}
 use Rattle.tree_key.specs.Keys.{Key, root, child, parent, Contains, first_cell}

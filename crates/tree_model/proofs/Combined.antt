@@ -1,4 +1,4 @@
--- Trees made of trees: with more keys, or of two trees cell by cell.
+-- Lemmas that crates above use: trees made of trees: with more keys, or of two trees cell by cell.
 use Rattle.std.proofs.Common.{◌≡◌, ℕ, zero, suc, ◌+◌, ◌^◌, inl, inr, List, [], ◌∷◌, map, Bool, true, false, not, ◌&&◌, leb, Option, Some, None, refl, sym, ◌∙◌, ap, subst, arith, ℤ}
 use Rattle.std.specs.List.{slice_get, zip}
 use Rattle.std.proofs.lemmas.Bool.{and_parts, or_parts, or_cases, or_left, or_right, leb-true, le-leb, not-true, cases_lt, le-ltb, lt-ltb}

@@ -1,4 +1,4 @@
--- The sums over boxes of what is made of two trees.
+-- Lemmas that crates above use: the sums over boxes of what is made of two trees.
 use Rattle.std.proofs.Common.{◌≡◌, ℕ, zero, suc, List, [], ◌∷◌, length, map, take, drop, true, false, refl, ◌∙◌, ap, arith, ℤ, pos, ◌+ℤ◌, ◌-ℤ◌, ◌*ℤ◌, neg_ℤ}
 use Rattle.std.specs.List.{zip, drop-map}
 use Rattle.std.proofs.lemmas.Int.{ints}

@@ -1,4 +1,4 @@
--- What an evaluator of commands rests on.
+-- Lemmas that crates above use: what an evaluator of commands rests on.
 use Rattle.tree_model.specs.Kept.{WholeBoxesAreEven, WholeBoxesHaveOneValue, ProductsOfValues, ProductsOverflow, LeavesWithin, ValuesDontOverflow, ProjectionsHaveValues, RefinedHaveValues, LeavesInOrder, DifferencesInOrder, LeavesAtKeys}
 use Rattle.tree_model.proofs.WholeBoxes.{boxes-are-even, boxes-have-one-value}
 use Rattle.tree_model.proofs.LeafProducts.{sums-of-values, much-on-a-leaf}

@@ -1,4 +1,5 @@
--- Sums at leaves, where a tree has one value: those of a product, and those that show an overflow.
+-- Lemmas that crates above use: sums at leaves, where a tree has one value: those of a product, and those that show an
+-- overflow.
 use Rattle.std.proofs.Common.{◌≡◌, ℕ, zero, suc, ◌+◌, ◌-◌, ◌*◌, ◌^◌, ◌<◌, ◌≤◌, List, [], ◌∷◌, length, take, drop, get_or, Bool, true, false, not, Some, inl, inr, refl, sym, ◌∙◌, ap, subst, arith, ℤ, pos, ◌*ℤ◌}
 use Rattle.std.specs.Int.RustNames.{unsigned_abs}
 use Rattle.std.specs.List.{slice_get, list_any}

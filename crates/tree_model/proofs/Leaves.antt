@@ -1,4 +1,5 @@
--- On the box of a leaf a projected tree is constant: it has the function's value at the box's first cell.
+-- Lemmas that crates above use: on the box of a leaf a projected tree is constant: it has the function's value at the
+-- box's first cell.
 use Rattle.std.proofs.Common.{◌≡◌, ℕ, zero, suc, ◌+◌, ◌-◌, ◌*◌, ◌/◌, ◌^◌, ◌<◌, ◌≤◌, length, map, Bool, true, false, not, ◌&&◌, ltb, leb, get_or, refl, sym, ◌∙◌, ap, subst, arith, zero-add, ℤ, pos, negsuc, ◌*ℤ◌}
 use Rattle.std.specs.List.{range_with_len, list_all, position_or_len}
 use Rattle.std.proofs.lemmas.Bool.{and_parts, leb-true, ltb-true, not-true}

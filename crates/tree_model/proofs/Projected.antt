@@ -1,4 +1,4 @@
--- A projected tree is a tree, and its leaves follow from its rows.
+-- Lemmas that crates above use: a projected tree is a tree, and its leaves follow from its rows.
 use Rattle.std.proofs.Common.{◌≡◌, ℕ, zero, suc, ◌+◌, ◌-◌, ◌*◌, ◌^◌, ◌<◌, ◌≤◌, inl, inr, List, [], ◌∷◌, ◌++◌, map, filter, Bool, true, false, ◌&&◌, cond, ltb, leb, refl, sym, ◌∙◌, ap, arith, zero-add, add-zero, append-nil, Some}
 use Rattle.std.specs.List.{flat_map, range_with_len, slice_get}
 use Rattle.std.proofs.lemmas.Bool.{and_parts, and_left, ltb-true, le-leb, le-ltb, cases_lt}

@@ -1,4 +1,4 @@
--- One more key of a row: its halves where it is split, and a leaf where it isn't.
+-- Lemmas that crates above use: one more key of a row: its halves where it is split, and a leaf where it isn't.
 use Rattle.std.proofs.Common.{◌≡◌, ℕ, ◌+◌, ◌<◌, List, [], ◌∷◌, ◌++◌, length, map, take, subst, ℤ, Greater, get_or, Bool, true, false, not, cond, ◌&&◌, refl, sym, ◌∙◌, ap, append_assoc, append-nil}
 use Rattle.std.specs.List.{flat_map, AllByRecursion}
 use Rattle.std.specs.BTreeMap.{insert_entry}
