@@ -23,7 +23,7 @@ use Rattle.event_lists.specs.Legal.{Legal}
 use Rattle.event_lists.proofs.ListLemmas.{legal_begins, begins_tail}
 use Rattle.event_lists.proofs.ItemLemmas.{ended_at}
 use Rattle.event_lists.proofs.HandLemmas.{ends_hand}
-use Rattle.event_lists.proofs.ReceiptLemmas.{received}
+use Rattle.event_lists.proofs.FenceLemmas.{received}
 use Rattle.event_lists.proofs.ReceiptLemmas.{quiet}
 use Rattle.event_laws.specs.Follows.{Plans, Doing, Start, Wait, Goes, Acts, CarriesOut, Finished, FollowsBy, IsRun, Says, program_at, deeds, waits, carried_out}
 use Rattle.event_laws.specs.Trees.{unit_of}

@@ -11,12 +11,12 @@ use Rattle.event_lists.specs.declared.mark.Mark.{Mark}
 use Rattle.event_lists.specs.declared.kind.Kind.{Kind}
 use Rattle.event_lists.specs.declared.kind.Kind.TheVariants.{Sends as sends, Submissions as submissions}
 use Rattle.event_lists.specs.Events.{part, main_of, count, Begins, IsSubmitted}
-use Rattle.event_lists.specs.Fences.{row_of, sum_ranks}
+use Rattle.event_lists.specs.Fences.{sum_ranks}
 use Rattle.event_lists.specs.Quiet.{named}
 use Rattle.event_lists.specs.Legal.{Legal}
 use Rattle.event_lists.proofs.ListLemmas.{legal_begins, begins_tail}
 use Rattle.event_lists.proofs.SumLemmas.{total, totals}
-use Rattle.event_lists.proofs.ReceiptLemmas.{received, agreed, rows_are_counts}
+use Rattle.event_lists.proofs.ReceiptLemmas.{receipt_length, receipt_row}
 use Rattle.event_laws.specs.Follows.{Plans, Doing, Start, IsRun, deeds, effect_name}
 use Rattle.event_laws.specs.Apart.{Apart, spawned}
 use Rattle.event_laws.specs.Stages.{fences_in, IsStaged, IsOfFence, AreUnits}
@@ -53,19 +53,14 @@ rows_sum f (row ∷ rows) g h =
 module _ (ranks workers : ℕ) (program : List Doing) (may : Label → List Outline → Type 0) (plans : Plans) (log before : List Mark) (x : Mark) (r : Receipt)
     (run : IsRun ranks workers program may plans log) (has : HasReceipt log before x r) where
   -- the rows of a receipt are the counts before it
-  row_counts : (k : Kind) (f : Row → ℕ) → ((row : Row) → named k row ≡ f row) → (n : ℕ) → n ≡ ranks → sum_rows f r.rows ≡ total k before
-  row_counts k f is zero e = let b = (legal_begins ranks workers (x ∷ before) log has.begins run.legal).0.named.0 in absurd (omega (arith, b, e))
-  row_counts k f is (suc n) e =
-      let legal : Legal (suc n) workers (x ∷ before) = subst (λ (z : ℕ). Legal z workers (x ∷ before)) (sym e) (legal_begins ranks workers (x ∷ before) log has.begins run.legal) in
-      let a = agreed (suc n) workers before x r legal has.is in
-      let asks = (received (suc n) workers before x r legal.0 has.is).3 in
-      let long : length r.rows ≡ suc n = asks.5.0 in
+  row_counts : (k : Kind) (f : Row → ℕ) → ((row : Row) → named k row ≡ f row) → sum_rows f r.rows ≡ total k before
+  row_counts k f is =
+      let legal = legal_begins ranks workers (x ∷ before) log has.begins run.legal in
+      let long = receipt_length ranks workers before x r legal has.is in
       let rows = rows_sum f r.rows (λ q. count k q before) (λ q b.
-      let below : q < suc n = omega (arith, b, long) in
-      let row = asks.3 q below in
-      let at : row_of r.fence (suc (suc a.0)) (part (main_of q) before) ≡ Some row.0 = subst (λ (p : ℕ). row_of r.fence p (part (main_of q) before) ≡ Some row.0) a.1 row.1 in
-      (row.0, sym (asks.5.1 q below) ∙ row.1, sym (is row.0) ∙ rows_are_counts n workers r.fence a.0 before a.2 q below row.0 at k)) in
-      rows ∙ ap (sum_ranks (λ q. count k q before)) long ∙ totals k (suc n) workers before legal.1
+      let row = receipt_row ranks workers before x r legal has.is q (omega (arith, b, long)) in
+      (row.0, row.1, sym (is row.0) ∙ row.2 k)) in
+      rows ∙ ap (sum_ranks (λ q. count k q before)) long ∙ totals k ranks workers before legal.1
 
   module _ (apart : Apart (spawned log)) (stage : Label → ℕ) (staged : IsStaged program may stage) (plan : Label → List Outline) (home : Label → ℕ) (us : List Label)
       (units : AreUnits program may (λ u. stage u < r.fence) plan home us) where
@@ -188,6 +183,6 @@ module _ (ranks workers : ℕ) (program : List Doing) (may : Label → List Outl
 
     pub all_counted : all_told r ≡ totals_of r.fence program plan home us
     all_counted =
-        let a : sum_rows (λ row. row.sent) r.rows ≡ start_sends r.fence program + unit_sends plan home us = row_counts sends (λ row. row.sent) (λ row. refl) ranks refl ∙ sends_counted in
-        let b : sum_rows (λ row. row.tasks) r.rows ≡ length us = row_counts submissions (λ row. row.tasks) (λ row. refl) ranks refl ∙ tasks_counted in
+        let a : sum_rows (λ row. row.sent) r.rows ≡ start_sends r.fence program + unit_sends plan home us = row_counts sends (λ row. row.sent) (λ row. refl) ∙ sends_counted in
+        let b : sum_rows (λ row. row.tasks) r.rows ≡ length us = row_counts submissions (λ row. row.tasks) (λ row. refl) ∙ tasks_counted in
         λ i. (a i, b i)

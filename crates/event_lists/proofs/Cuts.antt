@@ -9,19 +9,16 @@ use Rattle.event_lists.specs.declared.mark.Item.TheVariants.{Message, Task}
 use Rattle.event_lists.specs.declared.mark.Mark.{Mark}
 use Rattle.event_lists.specs.declared.kind.Kind.TheVariants.{Sends as sends}
 use Rattle.event_lists.specs.Events.{part, main_of, Begins, Stands, ends}
-use Rattle.event_lists.specs.Fences.{Fences, row_of, IsComplete}
+use Rattle.event_lists.specs.Fences.{row_of, IsComplete}
 use Rattle.event_lists.specs.Quiet.{named, IsCut, AllHandledOnce, AllRanOnce}
-use Rattle.event_lists.specs.Legal.{Legal, May}
+use Rattle.event_lists.specs.Legal.{Legal}
 use Rattle.event_lists.proofs.CountLemmas.{stands_below, stood_below, same_event}
 use Rattle.event_lists.proofs.ListLemmas.{legal_begins, begins_trans, on_begins, stands_named}
+use Rattle.event_lists.proofs.FenceLemmas.{received}
 use Rattle.event_lists.proofs.ItemLemmas.{made_here, ended_at}
 use Rattle.event_lists.proofs.WaitingLemmas.{Holds, waiting, ended_once}
 use Rattle.event_lists.proofs.HandLemmas.{ends_hand, hand_sent}
 use Rattle.event_lists.proofs.Agreed.{Agreed, rows_are_counts}
-
--- what a receipt asks of the list before it
-pub received : (ranks workers : ℕ) (before : List Mark) (x : Mark) (r : Receipt) → May ranks workers before x → x.event ≡ Receives r → Fences ranks before x.lane (part x.lane before) (Receives r)
-received ranks workers before x r may e = subst (λ (z : Event). Fences ranks before x.lane (part x.lane before) z) e may.fences
 
 pub agreed : (ranks workers : ℕ) (before : List Mark) (x : Mark) (r : Receipt) → Legal ranks workers (x ∷ before) → x.event ≡ Receives r → (d : ℕ) × (r.pass ≡ suc (suc d)) × Agreed ranks workers r.fence (suc d) before
 agreed ranks workers before x r h e =

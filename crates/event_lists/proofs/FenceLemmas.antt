@@ -13,12 +13,16 @@ use Rattle.event_lists.specs.declared.kind.Kind.TheVariants.{Sends as sends, Han
 use Rattle.event_lists.specs.declared.kind.Reading.{Reading}
 use Rattle.event_lists.specs.Events.{same_lane, main_of, part, Begins}
 use Rattle.event_lists.specs.Fences.{Fences, IsComplete, IsReady, InOrder, Agree, RowsAre, Receivable, total_sent, total_handled, sent_in, handled_in, row_of, is_receipt, has_receipt}
-use Rattle.event_lists.specs.Legal.{Legal}
+use Rattle.event_lists.specs.Legal.{Legal, May}
 use Rattle.event_lists.specs.OwnEvents.{has_receipt_on_lane}
 use Rattle.event_lists.proofs.Moments.{row_kept}
 use Rattle.event_lists.proofs.LaneLemmas.{same_lane_refl}
 use Rattle.event_lists.proofs.ListLemmas.{legal_begins}
 use Rattle.event_lists.proofs.SumLemmas.{same_sum}
+
+-- what a receipt asks of the list before it
+pub received : (ranks workers : ℕ) (before : List Mark) (x : Mark) (r : Receipt) → May ranks workers before x → x.event ≡ Receives r → Fences ranks before x.lane (part x.lane before) (Receives r)
+received ranks workers before x r may e = subst (λ (z : Event). Fences ranks before x.lane (part x.lane before) z) e may.fences
 
 -- an event that is a receipt is on the lane of rank 0's main
 pub receipt_lane : (ranks : ℕ) (log : List Mark) (l : LaneName) (mine : List Event) (e : Event) (f : ℕ) → Fences ranks log l mine e → is_receipt f e ≡ true → l ≡ main_of 0

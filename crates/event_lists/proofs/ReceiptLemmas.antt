@@ -1,6 +1,6 @@
 -- Lemmas that crates above use: what a receipt tells, from its two passes.
-use Rattle.std.proofs.Common.{inl, inr, ◌≡◌, ℕ, zero, suc, ◌<◌, false, List, [], ◌∷◌, refl, sym, ap, subst, arith}
-use Rattle.std.specs.Prelude.{Option, Some, None}
+use Rattle.std.proofs.Common.{length, ◌∙◌, inl, inr, ◌≡◌, ℕ, zero, suc, ◌<◌, false, List, [], ◌∷◌, refl, sym, ap, subst, arith}
+use Rattle.std.specs.Prelude.{slice_get, Option, Some, None}
 use Rattle.app_core.specs.declared.label.Label.{Label}
 use Rattle.event_lists.specs.declared.event.Event.{Event}
 use Rattle.event_lists.specs.declared.event.Event.TheVariants.{Sent, TookMessage, TookTask, Handled, Submitted, Ran, Gave, Receipt as Receives}
@@ -12,24 +12,38 @@ use Rattle.event_lists.specs.Dues.{Dues, Carries, KeepsDue}
 use Rattle.event_lists.specs.declared.future.Future.{Future}
 use Rattle.event_lists.specs.Futures.{due_of, times_given}
 use Rattle.event_lists.specs.declared.receipt.Receipt.{Receipt}
+use Rattle.event_lists.specs.declared.receipt.Row.{Row}
 use Rattle.event_lists.specs.declared.mark.Item.{Item}
 use Rattle.event_lists.specs.declared.mark.Mark.{Mark}
 use Rattle.event_lists.specs.declared.kind.Kind.{Kind}
 use Rattle.event_lists.specs.Events.{Begins, part, main_of, in_hand, makes, takes, count, times_made, times_ended}
 use Rattle.event_lists.specs.Fences.{row_of, IsComplete}
-use Rattle.event_lists.specs.Quiet.{Quiet}
+use Rattle.event_lists.specs.Quiet.{Quiet, named}
 use Rattle.event_lists.specs.Laws.{Received, is_work}
 use Rattle.event_lists.specs.Legal.{Legal}
 use Rattle.event_lists.proofs.Kept.{due_given}
 use Rattle.event_lists.proofs.ListLemmas.{legal_begins, begins_tail}
 use Rattle.event_lists.proofs.WaitingLemmas.{Holds, waiting, all_ended, made_now, made_waits, hand_waits}
 use Rattle.event_lists.proofs.ItemLemmas.{took_fresh}
-use Rattle.event_lists.proofs.Agreed.{settled, settled_end, rows_are_equal}
+use Rattle.event_lists.proofs.FenceLemmas.{received, complete_lasts}
+use Rattle.event_lists.proofs.Agreed.{rows_are_counts, settled, settled_end, rows_are_equal}
 use Rattle.event_lists.proofs.Cuts.{agreed, is_cut, all_handled, all_ran}
 use Rattle.event_lists.proofs.Given.{all_given}
-use Rattle.event_lists.proofs.FenceLemmas.{complete_lasts}
-pub use Rattle.event_lists.proofs.Cuts.{received, agreed}
-pub use Rattle.event_lists.proofs.Agreed.{rows_are_counts}
+
+-- a receipt has a row for each rank
+pub receipt_length : (ranks workers : ℕ) (before : List Mark) (x : Mark) (r : Receipt) → Legal ranks workers (x ∷ before) → x.event ≡ Receives r → length r.rows ≡ ranks
+receipt_length ranks workers before x r h e = (received ranks workers before x r h.0 e).3.5.0
+
+-- and each is what was counted before it
+pub receipt_row : (ranks workers : ℕ) (before : List Mark) (x : Mark) (r : Receipt) → Legal ranks workers (x ∷ before) → x.event ≡ Receives r → (q : ℕ) → q < ranks
+    → (row : Row) × (slice_get r.rows q ≡ Some row) × ((k : Kind) → named k row ≡ count k q before)
+receipt_row zero workers before x r h e q b = absurd (omega arith)
+receipt_row (suc n) workers before x r h e q b =
+    let a = agreed (suc n) workers before x r h e in
+    let asks = (received (suc n) workers before x r h.0 e).3 in
+    let row = asks.3 q b in
+    let at : row_of r.fence (suc (suc a.0)) (part (main_of q) before) ≡ Some row.0 = subst (λ (p : ℕ). row_of r.fence p (part (main_of q) before) ≡ Some row.0) a.1 row.1 in
+    (row.0, sym (asks.5.1 q b) ∙ row.1, λ k. rows_are_counts n workers r.fence a.0 before a.2 q b row.0 at k)
 
 same_pass : (d p pass : ℕ) → pass ≡ suc (suc d) → pass ≡ suc p → p ≡ suc d
 same_pass d p pass i j = omega arith
