@@ -2,4 +2,3 @@ pub mod PowerLemmas
 pub mod BoxLemmas
 pub mod FamilyLemmas
 pub mod OrderLemmas
-mod Examples

@@ -1,10 +1,9 @@
--- Keys of a dyadic tree: a level, and a place on it. A box is the cells that a key stands for.
-use Rattle.std.specs.Prelude.{◌≡◌, ℕ, ◌+◌, ◌-◌, ◌*◌, ◌/◌, ◌^◌, ◌<◌, ◌≤◌, Bool, cond, Option, Some, None, if◌then◌else◌, ◌==◌, refl}
-use Rattle.std.specs.Coded.{Coded, code_by, coded×, coded_ℕ}
+-- Keys of a dyadic tree: a level and a translation. A key stands for a box of cells.
+use Rattle.std.specs.Prelude.{◌≡◌, ℕ, ◌+◌, ◌-◌, ◌*◌, ◌/◌, ◌^◌, ◌<◌, ◌≤◌, Bool, cond, Option, Some, None, if◌then◌else◌, ◌==◌}
 use Rattle.std.specs.Ordering.{nat_cmp, ordering_then}
 use Rattle.std.specs.declared.cmp.Ordering.{Ordering}
 
--- a key: its level, from 0 at the root, and its place among the keys of that level
+-- a key: its level, from 0 at the root, and its translation, from 0 at the left
 pub record Key : Type 0 where
   pub level : ℕ
   pub at : ℕ
@@ -55,10 +54,6 @@ pub record InBox (depth : ℕ) (k : Key) (cell : ℕ) : Type 0 where
 abbrev pub key_over : ℕ → ℕ → ℕ → Key
 key_over depth level cell = record { level = level; at = cell / 2 ^ (depth - level) }
 
--- the order of keys: by level, and then by place
+-- the order of keys: by level, and then by translation
 abbrev pub key_cmp : Key → Key → Ordering
 key_cmp a b = ordering_then (nat_cmp a.level b.level) (nat_cmp a.at b.at)
-
--- how a model stores a key, for maps and lists of keys
-abbrev pub key_code : Coded Key
-key_code = code_by (ℕ × ℕ) (coded× coded_ℕ coded_ℕ) (λ k. (k.level, k.at)) (λ p. record { level = p.0; at = p.1 }) (λ _. refl)

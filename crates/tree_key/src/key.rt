@@ -6,9 +6,9 @@ ghost use Rattle.tree_key.specs.Keys.{Key as KeyData, IsKey, Contains, root, chi
 use std::fmt;
 use std::marker::Model;
 
-/// A key: a level from 0 to 16, and a place on it below two to the level.
+/// A key: a level from 0 to 16, and a translation below two to the level.
 ///
-/// Keys are ordered by level, and then by place.
+/// Keys are ordered by level, and then by translation.
 #[derive(Clone, Copy, Debug, PartialEq, Eq, PartialOrd, Ord, Hash)]
 pub struct Key {
     level: u8,
@@ -29,8 +29,8 @@ impl Model for Key {
 }
 
 impl Key {
-    /// The key of a level and a place. None exactly where the pair isn't a key: the level is above 16, or the
-    /// place isn't below two to the level.
+    /// The key of a level and a translation. None exactly where the pair isn't a key: the level is above 16, or the
+    /// translation isn't below two to the level.
     pub fn new(level: u8, at: u32) -> Option<Key>
         ensures some { IsSome result ↔ IsKey (record { level = level; at = at }) }
         ensures parts { IfSome result (λ k. k ≡ record { level = level; at = at }) }
@@ -57,7 +57,7 @@ impl Key {
         self.level
     }
 
-    /// The place on the level, from 0.
+    /// The translation: which key of its level it is, from 0 on the left.
     pub fn at(self) -> u32
         ensures value { result ≡ self.at }
         ensures key { IsKey self }
@@ -97,7 +97,7 @@ impl Key {
         self.level <= other.level && other.at >> (other.level - self.level) == self.at
     }
 
-    /// A number of the key's own, in the keys' order: two to the level, plus the place. The root has 1.
+    /// A number of the key's own, in the keys' order: two to the level, plus the translation. The root has 1.
     pub fn place(self) -> u64
         ensures { result ≡ place_of self }
     {
@@ -120,7 +120,7 @@ impl Key {
     }
 }
 
-/// Prints the level and the place, with a blank between them.
+/// Prints the level and the translation, with a blank between them.
 impl fmt::Display for Key {
     ghost output = { λ k. Some (decimal k.level ++ codes " " ++ decimal k.at) };
 

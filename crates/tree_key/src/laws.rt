@@ -53,7 +53,7 @@ pub fn keys_are_in_total_order()
     ensures apart { OrderTellsApart }
 {}
 
-/// How two keys compare, which is what `cmp` of `Ord` answers: by level, and then by place.
+/// How two keys compare, which is what `cmp` of `Ord` answers: by level, and then by translation.
 pub fn order(a: Key, b: Key) -> Ordering
     ensures { result ≡ key_cmp a b }
 {

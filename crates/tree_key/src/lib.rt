@@ -6,6 +6,7 @@
 //! `specs/Keys.antt` defines what the calls answer, and [`laws`] says what holds of all keys and boxes.
 #![tactic(auto)]
 
+mod examples;
 mod key;
 pub mod laws;
 mod text;

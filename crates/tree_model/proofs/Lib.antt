@@ -11,7 +11,6 @@ pub mod Bounds
 pub mod Projected
 pub mod Order
 pub mod Steps
-mod Computed
 pub mod BelowLeaves
 pub mod Combined
 pub mod CombinedSums

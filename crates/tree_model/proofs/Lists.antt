@@ -1,5 +1,5 @@
 -- Filters, maps and flat maps of lists, one after another.
-use Rattle.std.proofs.Common.{◌≡◌, List, [], ◌∷◌, ◌++◌, map, filter, Bool, true, false, cond, refl, sym, ◌∙◌, ap, append_assoc}
+use Rattle.std.proofs.Common.{◌≡◌, List, [], ◌∷◌, ◌++◌, map, filter, Bool, true, false, cond, refl, sym, ◌∙◌, ap}
 use Rattle.std.specs.List.{flat_map}
 use Rattle.std.specs.List.{AllByRecursion}
 use Rattle.std.proofs.lemmas.List.{map-append}
@@ -14,14 +14,6 @@ pub map-flat_map : {X Y Z : Type 0} (g : Y → Z) (f : X → List Y) (xs : List 
 map-flat_map g f [] = refl
 map-flat_map g f (x ∷ xs) = map-append g (f x) (flat_map f xs) ∙ ap (λ rest. map g (f x) ++ rest) (map-flat_map g f xs)
 
-pub flat_map-flat_map : {X Y Z : Type 0} (g : Y → List Z) (f : X → List Y) (xs : List X) → flat_map g (flat_map f xs) ≡ flat_map (λ x. flat_map g (f x)) xs
-flat_map-flat_map g f [] = refl
-flat_map-flat_map {X} {Y} {Z} g f (x ∷ xs) = flat_map-joined g (f x) (flat_map f xs) ∙ ap (λ rest. flat_map g (f x) ++ rest) (flat_map-flat_map g f xs)
-  where
-    flat_map-joined : (g : Y → List Z) (ys zs : List Y) → flat_map g (ys ++ zs) ≡ flat_map g ys ++ flat_map g zs
-    flat_map-joined g [] zs = refl
-    flat_map-joined g (y ∷ ys) zs = ap (λ rest. g y ++ rest) (flat_map-joined g ys zs) ∙ sym (append_assoc (g y) (flat_map g ys) (flat_map g zs))
-
 -- functions that agree on each element make the same list
 pub flat_map-agree : {X Y : Type 0} (f g : X → List Y) (xs : List X) → AllByRecursion (λ x. f x ≡ g x) xs → flat_map f xs ≡ flat_map g xs
 flat_map-agree f g [] all = refl
@@ -30,10 +22,6 @@ flat_map-agree f g (x ∷ xs) all = rw all.0 (ap (λ rest. g x ++ rest) (flat_ma
 pub filter-agree : {X : Type 0} (p q : X → Bool) (xs : List X) → AllByRecursion (λ x. p x ≡ q x) xs → filter p xs ≡ filter q xs
 filter-agree p q [] all = refl
 filter-agree p q (x ∷ xs) all = rw all.0 (ap (λ rest. cond (q x) (x ∷ rest) rest) (filter-agree p q xs all.1))
-
-pub map-agree : {X Y : Type 0} (f g : X → Y) (xs : List X) → AllByRecursion (λ x. f x ≡ g x) xs → map f xs ≡ map g xs
-map-agree f g [] all = refl
-map-agree f g (x ∷ xs) all = rw all.0 (ap (λ rest. g x ∷ rest) (map-agree f g xs all.1))
 
 -- a flat map over what a filter keeps
 pub flat_map-filter : {X Y : Type 0} (f : X → List Y) (p : X → Bool) (xs : List X) → flat_map f (filter p xs) ≡ flat_map (λ x. cond (p x) (f x) []) xs

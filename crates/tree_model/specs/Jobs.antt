@@ -43,7 +43,7 @@ first_overflow job = overflow_from job.depth no_versions 1 job.commands
 abbrev pub lines_before : JobData → ℕ → List ℕ
 lines_before job number = lines_from job.depth no_versions (take (number - 1) job.commands)
 
--- the lines of all commands; or of those before the first that overflows, and a line that names it: the commands behind it
+-- the lines of all commands; or of those before the first that overflows, and a line that names it: the commands after it
 -- have no meaning
 abbrev pub text_with : JobData → Option ℕ → List ℕ
 text_with job None = lines_from job.depth no_versions job.commands

@@ -62,7 +62,7 @@ abbrev pub newer : Option Version → Option Version → Option Version
 newer None before = before
 newer (Some version) before = Some version
 
--- what the names stand for behind a command
+-- what the names stand for after a command
 abbrev pub after : ℕ → Versions → Command → Versions
 after depth versions command name = if writes name command then newer (written depth versions command) (versions name) else versions name
 

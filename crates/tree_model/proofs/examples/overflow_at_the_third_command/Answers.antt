@@ -1,6 +1,6 @@
 use Rattle.std.proofs.Common.{refl}
 use Rattle.std.specs.Fmt.{digits}
-use Rattle.tree_model.proofs.operations.constant_refined.Goals as goal
+use Rattle.tree_model.proofs.examples.overflow_at_the_third_command.Goals as goal
 
 pub returns : goal.returns
 unfolding digits

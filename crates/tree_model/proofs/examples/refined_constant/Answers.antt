@@ -1,6 +1,6 @@
 use Rattle.std.proofs.Common.{refl}
 use Rattle.std.specs.Fmt.{digits}
-use Rattle.tree_model.proofs.operations.product_below_the_limit.Goals as goal
+use Rattle.tree_model.proofs.examples.refined_constant.Goals as goal
 
 pub returns : goal.returns
 unfolding digits

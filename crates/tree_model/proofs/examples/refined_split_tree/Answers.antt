@@ -1,6 +1,6 @@
 use Rattle.std.proofs.Common.{refl}
 use Rattle.std.specs.Fmt.{digits}
-use Rattle.tree_model.proofs.operations.weighted_sum_overflows.Goals as goal
+use Rattle.tree_model.proofs.examples.refined_split_tree.Goals as goal
 
 pub returns : goal.returns
 unfolding digits
