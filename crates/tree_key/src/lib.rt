@@ -12,4 +12,6 @@ pub mod laws;
 mod text;
 
 pub use key::Key;
-pub use text::{OutOfMemory, Text};
+/// No memory is left for what a call has to make.
+pub use std::alloc::AllocError as OutOfMemory;
+pub use text::Text;

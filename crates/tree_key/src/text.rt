@@ -1,41 +1,8 @@
-//! Bytes of a text, and the want of memory for more of them.
-ghost use Rattle.std.specs.Prelude.{◌≡◌, [], ◌++◌, OnOk, OnErr, codes, Some};
+//! Bytes of a text.
+ghost use Rattle.std.specs.Prelude.{◌≡◌, [], ◌++◌, OnOk, OnErr};
 
-use std::alloc::{AllocError, AllocFailed, Global};
-use std::error::Error;
-use std::fmt;
+use std::alloc::{AllocError as OutOfMemory, Global};
 use std::marker::Model;
-
-/// There is no memory left for what a call has to make.
-#[derive(Clone, Copy, Debug, PartialEq, Eq)]
-pub struct OutOfMemory;
-
-impl fmt::Display for OutOfMemory {
-    ghost output = { λ _. Some (codes "out of memory") };
-
-    fn fmt<W: fmt::Write>(&self, f: &mut fmt::Formatter<W>) -> fmt::Result {
-        write!(f, "out of memory")
-    }
-}
-
-impl Error for OutOfMemory {}
-
-impl From<AllocError> for OutOfMemory {
-    ghost from_gives = { λ _ e. e ≡ record {} };
-
-    fn from(_error: AllocError) -> OutOfMemory {
-        OutOfMemory
-    }
-}
-
-// So that `?` serves after `push` too; the value that wasn't stored is dropped.
-impl<T: Drop> From<AllocFailed<T>> for OutOfMemory {
-    ghost from_gives = { λ _ e. e ≡ record {} };
-
-    fn from(_refused: AllocFailed<T>) -> OutOfMemory {
-        OutOfMemory
-    }
-}
 
 /// Bytes that are added one piece after another.
 #[derive(Drop)]
@@ -107,14 +74,6 @@ mod tests {
         assert_eq!(rt; text.bytes(), b"3 5\n".as_slice());
         let again = Text::of_bytes(text.into_bytes());
         assert_eq!(rt; again.bytes(), b"3 5\n".as_slice());
-        Ok(())
-    }
-
-    #[test]
-    fn a_want_of_memory_has_a_text(rt: HostRuntime) -> Result<(), Fail> {
-        let refused = OutOfMemory::from(AllocError);
-        assert_eq!(rt; OutOfMemory::from(AllocFailed { value: 7u8 }), refused);
-        assert_eq!(rt; refused.to_string(rt.alloc())?.as_str(), "out of memory");
         Ok(())
     }
 }
