@@ -1,13 +1,2 @@
-pub mod Tables
-pub mod Stays
-pub mod LaneStates
-pub mod ItemStates
-pub mod Counting
-pub mod Same
-pub mod FutureNotes
-pub mod Needed
-pub mod Lacks
-pub mod Unchanged
-pub mod Listing
 pub mod BookParts
 pub mod LonePart

@@ -1,11 +1,1 @@
-pub mod Tables
-pub mod Keys
-pub mod Kept
-pub mod Lanes
-pub mod Items
-pub mod Touched
 pub mod Books
-pub mod Futures
-pub mod Spawns
-pub mod Lacking
-pub mod Indexed

@@ -7,19 +7,8 @@
 #![tactic(auto)]
 
 mod book;
-mod counts;
-mod futures;
-mod indexes;
-mod items;
-mod keys;
-mod lacking;
-mod lanes;
 mod laws;
 mod list;
-mod puts;
-mod receipts;
-mod spawns;
-mod table;
 #[cfg(test)]
 mod tests;
 

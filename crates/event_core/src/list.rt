@@ -6,12 +6,10 @@ ghost use Rattle.event_lists.specs.declared.receipt.Receipt.{Receipt as Received
 ghost use Rattle.event_lists.specs.Quiet.{Quiet};
 ghost use Rattle.event_rules.specs.Listed.{on, IsLegal, Allows, AreInRange};
 
-use crate::indexes::Indexes;
-use crate::keys::{CountName, EntryName, PassName};
-use crate::lacking::lacks_dues;
 use app_core::{CellName, OutOfMemory};
 use event_lists::{Bringer, Event, Future, Item, Kind, LaneName, Mark, Row};
 use event_rules::{Found, LaneState, Made, Past, allows};
+use event_tables::{CountName, EntryName, Indexes, PassName, lacks_dues};
 use std::alloc::Global;
 use std::marker::Model;
 
@@ -31,7 +29,7 @@ pub struct EventList {
 impl Model for EventList {
     ghost use Rattle.std.specs.Prelude.{reverse};
     ghost use Rattle.event_rules.specs.Listed.{Listed};
-    ghost use Rattle.event_core.specs.Indexed.{IsKept};
+    ghost use Rattle.event_tables.specs.Indexed.{IsKept};
 
     ghost Value = { Listed };
 

@@ -7,9 +7,9 @@ use Rattle.event_lists.proofs.ListLemmas.{begins_refl}
 use Rattle.event_lists.proofs.ReceiptLemmas.{quiet}
 use Rattle.event_rules.specs.Listed.{on}
 use Rattle.event_rules.specs.Shown.{ShowsLane}
-use Rattle.event_core.specs.Kept.{max_events}
-use Rattle.event_core.specs.Indexed.{IsKept}
-use Rattle.event_core.proofs.Listing.{same_keeps, same_kept, one_more, newest}
+use Rattle.event_tables.specs.Contents.{max_events}
+use Rattle.event_tables.specs.Indexed.{IsKept}
+use Rattle.event_tables.proofs.IndexLemmas.{same_keeps, same_kept, one_more, newest}
 use Rattle.event_core.proofs.list.EventList.add.Goals as goal
 
 pub invariant_of-self : goal.invariant_of-self

@@ -1,5 +1,5 @@
 use Rattle.std.proofs.Common.{subst}
-use Rattle.event_core.specs.Lacking.{KeepsLacks}
+use Rattle.event_tables.specs.Lacking.{KeepsLacks}
 use Rattle.event_core.proofs.list.EventListPast.lacks_dues.Goals as goal
 
 pub returns : goal.returns

@@ -1,6 +1,0 @@
-use Rattle.std.proofs.Common.{◌≡◌, ◌≤◌, take}
-use Rattle.event_core.specs.Lacking.{lacked}
-use Rattle.event_core.proofs.lacking.lacked_of.Given as goal
-
-abbrev pub invariant-loop-label : goal.invariant-loop-label
-invariant-loop-label l = (l.count ≡ lacked l.futures l.by l.due (take l.label-index l.label-items)) × (l.count ≤ l.label-index)

@@ -1,5 +1,0 @@
-use Rattle.event_core.proofs.Lacks.{lacks_at}
-use Rattle.event_core.proofs.lacking.lacks_dues.Goals as goal
-
-pub returns : goal.returns
-returns c = λ log keeps. lacks_at log c.args.lacking.now keeps c.args.by c.get.result c.get.ensures

@@ -1,0 +1,11 @@
+pub mod TableLemmas
+pub mod DueLemmas
+pub mod LaneLemmas
+pub mod ItemLemmas
+pub mod CountLemmas
+pub mod NameLemmas
+pub mod FutureLemmas
+pub mod NeedLemmas
+pub mod LackingLemmas
+pub mod ValueLemmas
+pub mod IndexLemmas

@@ -1,0 +1,10 @@
+pub mod Tables
+pub mod Keys
+pub mod Contents
+pub mod Lanes
+pub mod Items
+pub mod Touched
+pub mod Futures
+pub mod Spawns
+pub mod Lacking
+pub mod Indexed
