@@ -30,8 +30,9 @@ const PIECE: usize = 65536;
 ///
 /// # Errors
 ///
-/// - `ReadFault` only where the source's count of faults rose, or stood at 2^64 - 1.
-/// - `TooLong` exactly where the source gave `limit + 1` bytes.
+/// - `ReadFault` only where the source's count of faults rose, or stood at 2^64 - 1, and the source gave at most `limit`
+///   bytes.
+/// - `TooLong` only where the source gave `limit + 1` bytes, and no other error but `OutOfMemory` comes then.
 /// - `OutOfMemory` where there was no memory for the bytes or the buffer.
 pub fn read_all<S: Source>(
     alloc: Global,
@@ -43,6 +44,7 @@ pub fn read_all<S: Source>(
 
     // When each error comes.
     ensures fault { IsErrOf result ReadAllError.ReadFault → Rose (S.faults source.old) (S.faults source.new) }
+    ensures fault_within { IsErrOf result ReadAllError.ReadFault → (given : List ℕ) × (length given ≤ limit) × Consumes (S.left source.old) (S.left source.new) given }
     ensures too_long { IsErrOf result ReadAllError.TooLong → (given : List ℕ) × (length given ≡ limit + 1) × Consumes (S.left source.old) (S.left source.new) given }
 
     // What holds of every answer.

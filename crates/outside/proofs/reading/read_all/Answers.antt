@@ -10,6 +10,14 @@ returns-in-Err-clause-gone g c = (
   consumes_kept _ _ _ _ c.loop-buf.invariant.given c.in-Err.ensures.bytes,
 )
 
+-- a read that failed gave no byte, and there was room before it
+pub returns-in-Err-clause-fault_within : goal.returns-in-Err-clause-fault_within
+returns-in-Err-clause-fault_within g c told = (
+  c.loop-buf.out.items,
+  omega arith,
+  consumes_kept _ _ _ _ c.loop-buf.invariant.given c.in-Err.ensures.bytes,
+)
+
 pub returns-in-Ok-eq0-clause-gone : goal.returns-in-Ok-eq0-clause-gone
 returns-in-Ok-eq0-clause-gone g c =
     let piece = take c.in-Ok-eq0.field-0 c.read.new.buf in (
