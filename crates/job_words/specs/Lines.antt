@@ -1,10 +1,20 @@
 -- Lines and words of a job's text. Its lines are std's `lines`: each ends with a line feed, and one carriage return right
 -- before it belongs to its end; what follows the last line feed is a line too, if it isn't empty.
-use Rattle.std.specs.Prelude.{ℕ, ◌==◌, ◌&&◌, ◌||◌, nat_le, nat_lt, Bool, true, List, [], ◌∷◌, ◌++◌, length, filter, slice_index}
+use Rattle.std.specs.Prelude.{◌≡◌, ◌⊎◌, ℕ, ◌==◌, ◌&&◌, ◌||◌, nat_le, nat_lt, Bool, true, List, [], ◌∷◌, ◌++◌, length, filter, slice_index}
 use Rattle.std.specs.List.{slice_split}
 
 abbrev pub Words : Type 0
 Words = List (List ℕ)
+
+-- what ends a line that the rest of a text follows: a line feed, alone or after a carriage return; or nothing, where no rest is
+abbrev pub IsLineEnd : (end rest : List ℕ) → Type 0
+IsLineEnd end rest = (end ≡ 10 ∷ []) ⊎ ((end ≡ 13 ∷ 10 ∷ []) ⊎ ((end ≡ []) × (rest ≡ [])))
+
+-- the text is a line, what ends it, and the rest
+pub record IsCut (text line rest : List ℕ) : Type 0 where
+  pub end : List ℕ
+  pub ends : IsLineEnd end rest
+  pub bytes : text ≡ line ++ end ++ rest
 
 -- a space or a tab
 abbrev pub is_blank : ℕ → Bool

@@ -1,5 +1,5 @@
 //! Numbers and names, computed on small words. What is expected was worked out by hand.
-ghost use Rattle.std.specs.Prelude.{◌≡◌, true, false, Some, None, codes, pos, negsuc};
+ghost use Rattle.std.specs.Prelude.{◌≡◌, ◌∷◌, [], true, false, Some, None, codes, pos, negsuc};
 ghost use Rattle.job_words.specs.Names.{is_name};
 ghost use Rattle.job_words.specs.Numbers.{number};
 
@@ -21,4 +21,17 @@ pub fn names()
     ensures too_long { is_name (codes "abcdefghijklm_090") ≡ false }
     ensures digit_first { is_name (codes "0a") ≡ false }
     ensures capital { is_name (codes "aB") ≡ false }
+    ensures empty { is_name [] ≡ false }
+
+    // The ends of the ranges of bytes, and the bytes next to them.
+    ensures ends { is_name (codes "az09_") ≡ true }
+    ensures last_first { is_name (codes "z") ≡ true }
+    ensures below_a { is_name (97 ∷ 96 ∷ []) ≡ false }
+    ensures above_z { is_name (97 ∷ 123 ∷ []) ≡ false }
+    ensures below_0 { is_name (97 ∷ 47 ∷ []) ≡ false }
+    ensures above_9 { is_name (97 ∷ 58 ∷ []) ≡ false }
+    ensures below_underscore { is_name (97 ∷ 94 ∷ []) ≡ false }
+    ensures below_a_first { is_name (96 ∷ []) ≡ false }
+    ensures above_z_first { is_name (123 ∷ []) ≡ false }
+    ensures underscore_first { is_name (codes "_a") ≡ false }
 {}

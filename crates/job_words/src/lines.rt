@@ -1,7 +1,7 @@
 ghost use Rattle.std.specs.Prelude.{◌≡◌, ◌∷◌, [], ◌<◌, ◌==◌, IfOk, MatchOption, IfSome, length, map, position};
 ghost use Rattle.std.specs.Str.Lines.{lines, strip_carriage_return};
 ghost use Rattle.std.specs.List.{list_all};
-ghost use Rattle.job_words.specs.Lines.{words, is_allowed, is_passed_over};
+ghost use Rattle.job_words.specs.Lines.{IsCut, words, is_allowed, is_passed_over};
 
 use std::alloc::{AllocError, Global};
 
@@ -22,9 +22,11 @@ fn line_feed(text: &[u8]) -> Option<usize>
     text.iter().position(|byte| *byte == b'\n')
 }
 
-/// The first line of a text, and the text behind it. None exactly where the text is empty.
+/// The first line of a text, and the text after it. None exactly where the text is empty. Between the two stands the end
+/// of the line alone: a line feed and at most one carriage return, or nothing after the last line.
 pub fn next_line(text: &[u8]) -> Option<(&[u8], &[u8])>
     ensures first { MatchOption result (lines text.now ≡ []) (λ r. lines text.now ≡ r.0.now ∷ lines r.1.now) }
+    ensures cut { IfSome result (λ r. IsCut text.now r.0.now r.1.now) }
     ensures shorter { IfSome result (λ r. length r.1.now < length text.now) }
 {
     let Some(at) = line_feed(text) else {
