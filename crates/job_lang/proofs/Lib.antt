@@ -6,3 +6,5 @@ pub mod ReadLaws
 pub mod CanonicalLaws
 pub mod PlanLaws
 pub mod KindLaws
+pub mod MeaningLaws
+pub mod FirstFaultLaws

@@ -24,7 +24,7 @@ same_name : (a b : List ℕ) → bytes_eq a b ≡ true → a ≡ b
 same_name a b is = (bytes_eq-Decides a b).0 is
 
 -- a command writes the tree of the name that it writes
-writes-name : (name : List ℕ) (c : Command) → writes name c ≡ option_map_or (bytes_eq name) (written_name c) false
+pub writes-name : (name : List ℕ) (c : Command) → writes name c ≡ option_map_or (bytes_eq name) (written_name c) false
 writes-name name (Project written p) = refl
 writes-name name (Refine written level) = refl
 writes-name name (Compress written) = refl
@@ -43,7 +43,7 @@ by_name name n (Some m) is = ap (bytes_eq name) (sym (same_name n m is))
 writes-as : (name n : List ℕ) (c : Command) → writes n c ≡ true → writes name c ≡ bytes_eq name n
 writes-as name n c is = writes-name name c ∙ by_name name n (written_name c) (sym (writes-name n c) ∙ is)
 
-written_form-writes : (name : List ℕ) (c : Command) → writes name c ≡ true → is_some (written_form c) ≡ true
+pub written_form-writes : (name : List ℕ) (c : Command) → writes name c ≡ true → is_some (written_form c) ≡ true
 written_form-writes name (Project written p) is = refl
 written_form-writes name (Refine written level) is = refl
 written_form-writes name (Compress written) is = refl
@@ -183,7 +183,7 @@ none_or_one : (b : Bool) → one_unless b ≡ one_where (not b)
 none_or_one true = refl
 none_or_one false = refl
 
-form_behind-push : (cs : List Command) (c : Command) (name : List ℕ) → form_behind (cs ++ c ∷ []) name ≡ form_after name (form_behind cs name) c
+pub form_behind-push : (cs : List Command) (c : Command) (name : List ℕ) → form_behind (cs ++ c ∷ []) name ≡ form_after name (form_behind cs name) c
 form_behind-push cs c name = fold_push (form_after name) None cs c
 
 -- the writers behind a command that writes

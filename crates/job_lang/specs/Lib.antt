@@ -13,3 +13,5 @@ pub mod Accepted
 pub mod Faults
 pub mod Canonical
 pub mod Kinds
+pub mod Meaning
+pub mod FirstFaults

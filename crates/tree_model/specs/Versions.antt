@@ -1,5 +1,5 @@
 -- The versions of trees that the commands of a job write, and what they read.
-use Rattle.std.specs.Prelude.{ℕ, Bool, true, false, List, Option, Some, None, if◌then◌else◌}
+use Rattle.std.specs.Prelude.{ℕ, Bool, true, false, List, Option, Some, None, fold, if◌then◌else◌}
 use Rattle.std.specs.Option.{option_map, option_map_or}
 use Rattle.tree_model.specs.Commands.{Command, writes}
 use Rattle.tree_model.specs.Commands.Command.{Project, Refine, Compress, Reconstruct, Add, Mul, Inner, Print, Fence}
@@ -65,6 +65,10 @@ newer (Some version) before = Some version
 -- what the names stand for after a command
 abbrev pub after : ℕ → Versions → Command → Versions
 after depth versions command name = if writes name command then newer (written depth versions command) (versions name) else versions name
+
+-- what the names stand for after these commands
+abbrev pub versions_behind : ℕ → List Command → Versions
+versions_behind depth commands = fold (after depth) no_versions commands
 
 -- whether a command overflows: a value of the tree that it writes is above what a cell may have
 abbrev pub command_overflows : ℕ → Versions → Command → Bool
