@@ -15,3 +15,4 @@ pub mod Canonical
 pub mod Kinds
 pub mod Meaning
 pub mod FirstFaults
+pub mod Samples
