@@ -1,11 +1,10 @@
 -- The trees that the names of a job stand for, as an evaluator keeps them.
-use Rattle.std.specs.Prelude.{ℕ, List, Option, fold}
+use Rattle.std.specs.Prelude.{ℕ, List, Option}
 use Rattle.std.specs.Borrow.{Bor}
 use Rattle.std.specs.Cmp.Lexicographic.{slice_cmp}
 use Rattle.std.specs.Ordering.{nat_cmp}
 use Rattle.std.specs.BTreeMap.{BTreeMap, get_by}
-use Rattle.tree_model.specs.Commands.{Command}
-use Rattle.tree_model.specs.Versions.{Versions, no_versions, after}
+use Rattle.tree_model.specs.Versions.{Versions}
 use Rattle.plain_tree.specs.Kept.{Matches}
 use Rattle.plain_tree.specs.declared.kept.Kept.{Kept}
 
@@ -16,7 +15,3 @@ kept_at trees name = get_by (λ key. slice_cmp nat_cmp name key.now) trees
 -- the map has for each name the version that the name stands for
 pub record HasVersions (depth : ℕ) (versions : Versions) (trees : BTreeMap (Bor (List ℕ)) Kept) : Type 0 where
   pub at : (name : List ℕ) → Matches depth (kept_at trees name) (versions name)
-
--- what the names stand for behind these commands
-abbrev pub versions_behind : ℕ → List Command → Versions
-versions_behind depth commands = fold (after depth) no_versions commands

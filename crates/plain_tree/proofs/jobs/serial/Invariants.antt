@@ -1,8 +1,8 @@
 use Rattle.std.proofs.Common.{◌≡◌, ◌+◌, map, take, drop}
 use Rattle.tree_model.specs.Jobs.{lines_from, overflow_from, first_overflow}
-use Rattle.tree_model.specs.Versions.{no_versions}
+use Rattle.tree_model.specs.Versions.{no_versions, versions_behind}
 use Rattle.job_lang.specs.Data.{data_of}
-use Rattle.plain_tree.specs.Trees.{HasVersions, versions_behind}
+use Rattle.plain_tree.specs.Trees.{HasVersions}
 use Rattle.plain_tree.proofs.jobs.serial.Given as goal
 
 abbrev pub invariant-loop-index : goal.invariant-loop-index
