@@ -4,6 +4,7 @@ ghost use Rattle.std.specs.List.{AllByRecursion};
 ghost use Rattle.app_core.specs.declared.label.Label.{Label as Name};
 ghost use Rattle.app_core.specs.declared.label.CellName.{CellName as Entry};
 ghost use Rattle.app_core.specs.declared.effect.Effect.{Effect as Act};
+ghost use Rattle.app_core.specs.declared.outline.Outline.{Outline as Told};
 ghost use Rattle.app_core.specs.Given.{Given};
 ghost use Rattle.app_core.specs.Commands.{kind_of, IsCommand, IsWork, IsRankCount};
 ghost use Rattle.app_core.specs.Homes.{rank_within};
@@ -167,10 +168,10 @@ pub trait App: Facts + Sync {
         → IsWork (Self.kinds_of app) command → IsRankCount ranks
         → AllByRecursion IsSpawn (starting_of app command ranks) };
 
-    /// Each unit that the starts spawn is one of the application.
-    ghost starts_are_right: { (app : Self) (command ranks : ℕ)
-        → IsCommand (Self.kinds_of app) command → IsRankCount ranks
-        → AllByRecursion (IsRightEffect (right_value app) (right_cell app) (is_unit app)) (starting_of app command ranks) };
+    /// Where there are as many ranks as the application is made for, each unit that the starts spawn is one of the
+    /// application.
+    ghost starts_are_right: { (app : Self) (command : ℕ) → IsCommand (Self.kinds_of app) command
+        → AllByRecursion (IsRightEffect (right_value app) (right_cell app) (is_unit app)) (starting_of app command (Self.ranks_of app)) };
 
     /// The starts spawn each unit with just its needs, in their order.
     ghost starts_have_their_needs: { (app : Self) (command ranks : ℕ)
@@ -327,11 +328,20 @@ pub trait App: Facts + Sync {
         → Self.starts_of app command ≡ outlines (label_of app) (due_of app) (home_of app) (kept_at app)
         (Self.ranks_of app) (starting_of app command (Self.ranks_of app)) };
 
+    /// What a unit does on inputs that are right for it is allowed by its label.
     ghost steps_are_told: { (app : Self) (unit : Self.Unit) (given : Given Self.Value Self.Cell)
         → is_unit app unit
         → AreRightInputs (right_value app) (right_cell app) (Self.right_size app)
         (needs_of app unit) (reads_of app unit) (counts_of app unit) (home_of app unit (Self.ranks_of app)) given
         → Self.may_do app (label_of app unit) (outlines (label_of app) (due_of app) (home_of app) (kept_at app)
+        (Self.ranks_of app) (step_of app unit given)) };
+
+    /// What a label allows is done by a unit of the application with this label, on inputs that are right for it.
+    ghost allowed_is_a_step: { (app : Self) (label : Name) (allowed : List Told) → Self.may_do app label allowed
+        → (unit : Self.Unit) × (given : Given Self.Value Self.Cell) × is_unit app unit × (label_of app unit ≡ label)
+        × AreRightInputs (right_value app) (right_cell app) (Self.right_size app)
+        (needs_of app unit) (reads_of app unit) (counts_of app unit) (home_of app unit (Self.ranks_of app)) given
+        × (allowed ≡ outlines (label_of app) (due_of app) (home_of app) (kept_at app)
         (Self.ranks_of app) (step_of app unit given)) };
 
     ghost futures_are_told: { (app : Self) (future : Name)

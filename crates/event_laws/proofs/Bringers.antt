@@ -1,6 +1,6 @@
--- Lemmas that crates above use: where a label tells its bringer, no label is brought up by two; and where an entry has
--- one unit that puts or erases it, no two begun tasks do.
-use Rattle.std.proofs.Common.{◌≡◌, ℕ, Bool, true, false, List, [], ◌∷◌, ◌++◌, refl, sym, ap, ◌∙◌, subst}
+-- Lemmas that crates above use: where a label tells its bringer, no label is brought up by two; and where two units that
+-- may put or erase one entry never both do, no two begun tasks do.
+use Rattle.std.proofs.Common.{◌≡◌, ℕ, Bool, true, false, List, [], ◌∷◌, ◌++◌, refl, sym, ap, ◌∙◌, subst, ⊎_elim}
 use Rattle.std.specs.Prelude.{if◌then◌else◌, ◌==◌, Option, Some, None, slice_get, Contains}
 use Rattle.std.specs.Option.{option_to_list}
 use Rattle.std.proofs.lemmas.Bool.{both_ways}
@@ -27,12 +27,12 @@ use Rattle.event_lists.specs.Laws.{label_of}
 use Rattle.event_lists.proofs.ListLemmas.{legal_begins, begins_tail, begins_trans, on_begins}
 use Rattle.event_lists.proofs.FutureLemmas.{same_label_refl}
 use Rattle.event_lists.proofs.NameLemmas.{all_named}
-use Rattle.event_laws.specs.Follows.{Plans, Doing, Start, deeds, Says, IsRun}
-use Rattle.event_laws.specs.Trees.{IsTree, BringsUp, IsOnce}
+use Rattle.event_laws.specs.Follows.{Plans, Doing, Start, deeds, Says, Planned, IsRun}
+use Rattle.event_laws.specs.Trees.{unit_of, IsTree, BringsUp, SpawnsNot, IsOnce}
 use Rattle.event_laws.specs.Apart.{spawn_label, named_in, Brought, HasOneBringer, EffectsApart}
 use Rattle.event_laws.proofs.Members.{none_in}
 use Rattle.event_laws.proofs.Positions.{stands_at}
-use Rattle.event_laws.proofs.Spawns.{Origin, itself, carried, origin, same_task}
+use Rattle.event_laws.proofs.Spawns.{Spawns, Origin, itself, carried, origin, task_spawn, same_task}
 use Rattle.event_laws.proofs.Says.{spawn_is}
 use Rattle.event_laws.proofs.Sources.{planned_at, Source, of_main, of_task, source, apart}
 
@@ -138,13 +138,45 @@ module _ (ranks workers : ℕ) (program : List Doing) (may : Label → List Outl
             let same = same_task ranks workers end run.legal (apart ranks workers program may plans end run parent tree) r n q k t u s v units in
             e ∙ (λ d. task_of (same.0 d) (same.1 d)) ∙ sym f
 
+  -- where only the unit of a begun task spawns the unit of another task, one of its effects did
+  spawned_by : (parent : Label → Option Label) → IsTree program may parent → (r n q m : ℕ) (t u : TaskName) (os : List Outline) → IsSubmitted r n t end → IsSubmitted q m u end → plans r n ≡ Some os → parent u.unit ≡ Some t.unit
+      → (i : ℕ) × (o : Outline) × (slice_get os i ≡ Some o) × (unit_of o ≡ Some u.unit)
+  spawned_by parent tree r n q m t u os s v plan up = from (task_spawn ranks workers end run.legal q m u v)
+    where
+      from : Spawns u.unit end → (i : ℕ) × (o : Outline) × (slice_get os i ≡ Some o) × (unit_of o ≡ Some u.unit)
+      from w = by_source (source ranks workers program may plans end run u.unit w.x w.before w.begins w.label)
+        where
+          back : Begins w.before end
+          back = begins_tail w.x w.before end w.begins
+
+          by_source : Source ranks workers program may plans end run u.unit w.x w.before → (i : ℕ) × (o : Outline) × (slice_get os i ≡ Some o) × (unit_of o ≡ Some u.unit)
+          by_source (of_main hand lane done o at says unit) = absurd (let e : None ≡ Some t.unit = sym (tree.starts (deeds (part w.x.lane w.before)) o u.unit at unit) ∙ up in cc)
+          by_source (of_task k l i hand c unit) =
+              let p = planned_at ranks workers program may plans end run k l c.os w.before back c.plan c.taken in
+              let e : Some (p.0).unit ≡ Some t.unit = sym (tree.steps (p.0).unit c.os i c.o u.unit p.2 c.here unit) ∙ up in
+              let units : (p.0).unit ≡ t.unit = cc in
+              let there : IsSubmitted k l p.0 end = (p.1.0, p.1.1, on_begins p.1.0 (Submitted l p.0) w.before end back p.1.2) in
+              let same = same_task ranks workers end run.legal (apart ranks workers program may plans end run parent tree) k l r n p.0 t there s units in
+              let lists : Some c.os ≡ Some os = sym c.plan ∙ (λ d. plans (same.0 d) (same.1 d)) ∙ plan in
+              let is : c.os ≡ os = cc in
+              (i, c.o, subst (λ (z : List Outline). slice_get z i ≡ Some c.o) is c.here, unit)
+
   -- among the effects of begun tasks no entry has two of one kind
-  pub effects_apart : (parent : Label → Option Label) → IsTree program may parent → (f : CellName → Outline) → IsOnce may f → EffectsApart f plans
+  pub effects_apart : (parent : Label → Option Label) → IsTree program may parent → (f : CellName → Outline) → IsOnce may parent f → EffectsApart f plans
   effects_apart parent tree f once r n i q m j os ps c plan plan' at at' =
       let p = run.follows.planned r n os plan in
       let w = run.follows.planned q m ps plan' in
-      let unit : p.task.unit ≡ w.task.unit = once.unit p.task.unit w.task.unit os ps i j c p.may_do w.may_do at at' in
-      let same = same_task ranks workers end run.legal (apart ranks workers program may plans end run parent tree) r n q m p.task w.task p.submitted w.submitted unit in
-      let lists : Some ps ≡ Some os = sym plan' ∙ (λ d. plans (sym same.0 d) (sym same.1 d)) ∙ plan in
-      let is : ps ≡ os = cc in
-      (same.0, same.1, once.place p.task.unit os i j c p.may_do at (subst (λ k. slice_get k j ≡ Some (f c)) is at'))
+      ⊎_elim
+      (λ unit. one p w unit)
+      (λ spawner. absurd (⊎_elim (λ a. spawns_not r n q m p.task w.task os p.submitted w.submitted plan a) (λ b. spawns_not q m r n w.task p.task ps w.submitted p.submitted plan' b) spawner))
+      (once.unit p.task.unit w.task.unit os ps i j c p.may_do w.may_do at at')
+    where
+      spawns_not : (r n q m : ℕ) (t u : TaskName) (os : List Outline) → IsSubmitted r n t end → IsSubmitted q m u end → plans r n ≡ Some os → SpawnsNot parent t.unit os u.unit → ⊥
+      spawns_not r n q m t u os s v plan a = let e = spawned_by parent tree r n q m t u os s v plan a.spawner in a.none e.0 e.1 e.2 e.3
+
+      one : (p : Planned may end r n os) (w : Planned may end q m ps) → p.task.unit ≡ w.task.unit → (r ≡ q) × (n ≡ m) × (i ≡ j)
+      one p w unit =
+          let same = same_task ranks workers end run.legal (apart ranks workers program may plans end run parent tree) r n q m p.task w.task p.submitted w.submitted unit in
+          let lists : Some ps ≡ Some os = sym plan' ∙ (λ d. plans (sym same.0 d) (sym same.1 d)) ∙ plan in
+          let is : ps ≡ os = cc in
+          (same.0, same.1, once.place p.task.unit os i j c p.may_do at (subst (λ k. slice_get k j ≡ Some (f c)) is at'))

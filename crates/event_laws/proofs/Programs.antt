@@ -1,5 +1,5 @@
 -- Lemmas that crates above use: the places of a program that the commands make.
-use Rattle.std.proofs.Common.{◌≡◌, ◌⊎◌, ℕ, zero, suc, ◌+◌, List, [], ◌∷◌, ◌++◌, refl, sym, ap, ◌∙◌, subst, inl, inr, ⊎_elim, arith}
+use Rattle.std.proofs.Common.{◌≡◌, ◌⊎◌, ℕ, zero, suc, ◌+◌, List, [], ◌∷◌, ◌++◌, length, refl, sym, ap, ◌∙◌, subst, inl, inr, ⊎_elim, arith}
 use Rattle.std.specs.Prelude.{Some, map, take, slice_get}
 use Rattle.app_core.specs.declared.label.Label.{Label}
 use Rattle.app_core.specs.declared.outline.Outline.{Outline}
@@ -76,3 +76,48 @@ stages kinds starts may started spawned = record {
       ap (λ (z : ℕ). fences_before z kinds) command ∙ sym r.4;
   steps = λ p os i o u m e unit. ap (λ (z : ℕ). fences_before z kinds) (spawned p os i o u m e unit);
 }
+
+-- where a start of a command stands in the program
+abbrev index_of : (ℕ → List Outline) → ℕ → List CommandKind → ℕ → ℕ → ℕ
+index_of starts b [] c i = 0
+index_of starts b (Work ∷ ks) zero i = i
+index_of starts b (Work ∷ ks) (suc c) i = length (starts b) + index_of starts (suc b) ks c i
+index_of starts b (Fence ∷ ks) zero i = 0
+index_of starts b (Fence ∷ ks) (suc c) i = suc (index_of starts (suc b) ks c i)
+
+either_part : (xs : List Outline) (rest : List Doing) (k : ℕ) (o : Outline) → slice_get (map Start xs ++ rest) k ≡ Some (Start o)
+    → (slice_get xs k ≡ Some o) ⊎ ((j : ℕ) × (slice_get rest j ≡ Some (Start o)) × (k ≡ length xs + j))
+either_part [] rest k o e = inr (k, e, omega arith)
+either_part (x ∷ xs) rest zero o e = inl (let z : Start x ≡ Start o = cc in let same : x ≡ o = cc in ap Some same)
+either_part (x ∷ xs) rest (suc k) o e = ⊎_elim (λ h. inl h) (λ r. inr (r.0, r.1, (let n : k ≡ length xs + r.0 = r.2 in omega arith))) (either_part xs rest k o e)
+
+index_is : (starts : ℕ → List Outline) (b : ℕ) (ks : List CommandKind) (k : ℕ) (o : Outline) → slice_get (program_from b ks starts) k ≡ Some (Start o)
+    → (c : ℕ) × (i : ℕ) × (slice_get ks c ≡ Some Work) × (slice_get (starts (b + c)) i ≡ Some o) × (k ≡ index_of starts b ks c i)
+index_is starts b [] zero o e = absurd (let z : Wait ≡ Start o = cc in cc)
+index_is starts b [] (suc k) o e = absurd (cc)
+index_is starts b (Fence ∷ ks) zero o e = absurd (let z : Wait ≡ Start o = cc in cc)
+index_is starts b (Fence ∷ ks) (suc k) o e =
+    let r = index_is starts (suc b) ks k o e in
+    let next : suc b + r.0 ≡ b + suc r.0 = omega arith in
+    (suc r.0, r.1, r.2, subst (λ (z : ℕ). slice_get (starts z) r.1 ≡ Some o) next r.3, ap suc r.4)
+index_is starts b (Work ∷ ks) k o e = ⊎_elim
+    (λ here. (zero, k, refl, subst (λ (z : ℕ). slice_get (starts z) k ≡ Some o) (omega arith) here, refl))
+    (λ there.
+    let r = index_is starts (suc b) ks there.0 o there.1 in
+    let next : suc b + r.0 ≡ b + suc r.0 = omega arith in
+    (suc r.0, r.1, r.2, subst (λ (z : ℕ). slice_get (starts z) r.1 ≡ Some o) next r.3, there.2 ∙ ap (λ (z : ℕ). length (starts b) + z) r.4))
+    (either_part (starts b) (program_from (suc b) ks starts) k o e)
+
+-- where the label of a unit that a command starts tells the command, and its place among the starts of this, no program has
+-- it twice
+pub one_start : (kinds : List CommandKind) (starts : ℕ → List Outline) (place : Label → ℕ)
+    → ((command i : ℕ) (o : Outline) (u : Label) → IsWork kinds command → slice_get (starts command) i ≡ Some o → unit_of o ≡ Some u → (u.command ≡ command) × (place u ≡ i))
+    → (k j : ℕ) (o q : Outline) (u : Label) → slice_get (program_from 1 kinds starts) k ≡ Some (Start o) → slice_get (program_from 1 kinds starts) j ≡ Some (Start q) → unit_of o ≡ Some u → unit_of q ≡ Some u → k ≡ j
+one_start kinds starts place tells k j o q u e f s t =
+    let a = index_is starts 1 kinds k o e in
+    let b = index_is starts 1 kinds j q f in
+    let c = tells (suc a.0) a.1 o u a.2 (subst (λ (z : ℕ). slice_get (starts z) a.1 ≡ Some o) (omega arith) a.3) s in
+    let d = tells (suc b.0) b.1 q u b.2 (subst (λ (z : ℕ). slice_get (starts z) b.1 ≡ Some q) (omega arith) b.3) t in
+    let commands : a.0 ≡ b.0 = omega (arith, c.0, d.0) in
+    let places : a.1 ≡ b.1 = sym c.1 ∙ d.1 in
+    a.4 ∙ (λ m. index_of starts 1 kinds (commands m) (places m)) ∙ sym b.4

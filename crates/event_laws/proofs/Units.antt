@@ -13,7 +13,7 @@ use Rattle.event_lists.specs.Events.{part, main_of, IsSubmitted}
 use Rattle.event_lists.specs.Bins.{is_put}
 use Rattle.event_laws.specs.Follows.{Plans, Doing, IsRun, bin_of, deeds}
 use Rattle.event_laws.specs.Apart.{EffectsApart}
-use Rattle.event_laws.specs.Stages.{IsStaged, Comes, started, spawned, IsOfFence, AreUnits, UnitHas}
+use Rattle.event_laws.specs.Stages.{IsStaged, Comes, started, spawned, IsOfFence, AsPlanned, AreUnits, UnitHas}
 use Rattle.event_laws.specs.Done.{IsDone, HasDone}
 use Rattle.event_laws.specs.Held.{HasReceipt}
 use Rattle.event_laws.proofs.Mains.{fences_grow}
@@ -34,26 +34,30 @@ module _ (ranks workers : ℕ) (program : List Doing) (may : Label → List Outl
       q n t s
 
   module _ (Of : Label → Type 0) (of_fence : IsOfFence may stage r.fence Of) (plan : Label → List Outline) (home : Label → ℕ) (us : List Label) (units : AreUnits program may Of plan home us) where
-    comes_done : (u : Label) (q : ℕ) → Comes program may u q → Of u → IsDone may plans before q u (plan u)
+    -- a task of the kind is one of the units, at its rank
+    pub task_is : (q n : ℕ) (t : TaskName) → IsSubmitted q n t before → Of t.unit → Contains us t.unit × (q ≡ home t.unit)
+    task_is q n t s is = units.all t.unit q (comes_early q n t s).0 is
+
+    -- and has done what is planned
+    planned : (u : Label) (q : ℕ) (os : List Outline) → IsDone may plans before q u os → Of u → IsDone may plans before q u (plan u)
+    planned u q os d is =
+        let named : d.task.unit ≡ u = d.label in
+        let t = task_is q d.number d.task d.submitted (subst Of (sym named) is) in
+        let lists = units.plans u os (subst (Contains us) named t.0) d.may_do in
+        subst (λ (z : List Outline). IsDone may plans before q u z) lists d
+
+    comes_done : (u : Label) (q : ℕ) → Comes program (AsPlanned plan Of) u q → Of u → IsDone may plans before q u (plan u)
     comes_done u q (started k _ d ns _ at) is =
         let d = start_done ranks workers program may plans log before x r run has k u d ns q at (subst (λ (z : ℕ). z < r.fence) (staged.starts k (of.Spawn u d ns q) u at refl) (of_fence.before u is)) in
-        let lists = units.plans u d.0 (units.all u q (started k u _ _ q at) is).0 d.1.may_do in
-        subst (λ (z : List Outline). IsDone may plans before q u z) lists d.1
+        planned u q d.0 d.1 is
     comes_done u q (spawned p rank os i _ d ns _ c m at) is =
-        let up = of_fence.spawner p os i (of.Spawn u d ns q) u m at refl is in
-        let above = comes_done p rank c up in
-        let same = units.plans p os (units.all p rank c up).0 m in
-        let e = spawn_done ranks workers program may plans log before x r run has rank p (plan p) above i u d ns q (subst (λ (z : List Outline). slice_get z i ≡ Some (of.Spawn u d ns q)) same at) in
-        let lists = units.plans u e.0 (units.all u q (spawned p rank os i u d ns q c m at) is).0 e.1.may_do in
-        subst (λ (z : List Outline). IsDone may plans before q u z) lists e.1
+        let above = comes_done p rank c m.1 in
+        let e = spawn_done ranks workers program may plans log before x r run has rank p (plan p) above i u d ns q (subst (λ (z : List Outline). slice_get z i ≡ Some (of.Spawn u d ns q)) m.0 at) in
+        planned u q e.0 e.1 is
 
     -- each of the units is done
     pub unit_done : (u : Label) → Contains us u → IsDone may plans before (home u) u (plan u)
     unit_done u is = let o = units.only u is in comes_done u (home u) o.0 o.1
-
-    -- a task of the kind is one of the units, at its rank
-    pub task_is : (q n : ℕ) (t : TaskName) → IsSubmitted q n t before → Of t.unit → Contains us t.unit × (q ≡ home t.unit)
-    task_is q n t s is = units.all t.unit q (comes_early q n t s).0 is
 
     pub unit_has : (q : ℕ) (o : Outline) → UnitHas plan home us q o → HasDone may plans before q o
     unit_has q o h = subst (λ (z : ℕ). HasDone may plans before z o) h.there (record { unit = h.unit; os = plan h.unit; done = unit_done h.unit h.is; at = h.at; here = h.here })

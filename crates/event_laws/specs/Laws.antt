@@ -34,7 +34,7 @@ BringersAreOne ranks program may =
 -- for effects of one kind, puts or erases: among the effects of begun tasks no entry has two
 abbrev pub EntriesAreApart : ℕ → List Doing → (Label → List Outline → Type 0) → Type 0
 EntriesAreApart ranks program may =
-    (parent : Label → Option Label) (f : CellName → Outline) → IsTree program may parent → IsOnce may f
+    (parent : Label → Option Label) (f : CellName → Outline) → IsTree program may parent → IsOnce may parent f
     → (workers : ℕ) (plans : Plans) (log : List Mark) → IsRun ranks workers program may plans log → EffectsApart f plans
 
 -- an entry that a begun task erases was put before the task was taken

@@ -28,11 +28,16 @@ pub record IsOfFence (may : Label → List Outline → Type 0) (stage : Label �
   pub before : (u : Label) → Of u → stage u < fence
   pub spawner : (p : Label) (os : List Outline) (i : ℕ) (o : Outline) (u : Label) → may p os → slice_get os i ≡ Some o → unit_of o ≡ Some u → Of u → Of p
 
--- these are just the units of a kind that come up, each at one rank and with one list of effects
+-- a unit of a kind does what is planned for it
+abbrev pub AsPlanned : (Label → List Outline) → (Label → Type 0) → Label → List Outline → Type 0
+AsPlanned plan Of p os = (os ≡ plan p) × Of p
+
+-- these are just the units of a kind that come up, each at one rank and with one list of effects: each comes up where the
+-- units of the kind do what is planned, and what one of them may do is planned
 pub record AreUnits (program : List Doing) (may : Label → List Outline → Type 0) (Of : Label → Type 0) (plan : Label → List Outline) (home : Label → ℕ) (us : List Label) : Type 0 where
   pub apart : Apart us
   pub all : (u : Label) (rank : ℕ) → Comes program may u rank → Of u → Contains us u × (rank ≡ home u)
-  pub only : (u : Label) → Contains us u → Comes program may u (home u) × Of u
+  pub only : (u : Label) → Contains us u → Comes program (AsPlanned plan Of) u (home u) × Of u
   pub plans : (u : Label) (os : List Outline) → Contains us u → may u os → os ≡ plan u
 
 -- one of them is at this rank and has this effect

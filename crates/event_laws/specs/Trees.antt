@@ -1,5 +1,5 @@
 -- Facts on an application's plain data from which its laws over lists of events follow.
-use Rattle.std.specs.Prelude.{◌≡◌, ◌≢◌, ℕ, ◌<◌, List, [], Option, Some, None, slice_get, Contains}
+use Rattle.std.specs.Prelude.{◌≡◌, ◌≢◌, ◌⊎◌, ℕ, ◌<◌, List, [], Option, Some, None, slice_get, Contains}
 use Rattle.app_core.specs.declared.label.Label.{Label}
 use Rattle.app_core.specs.declared.label.CellName.{CellName}
 use Rattle.app_core.specs.declared.outline.Outline.{Outline}
@@ -30,9 +30,16 @@ pub record BringsUp (program : List Doing) (may : Label → List Outline → Typ
   pub start_due : (k : ℕ) (u : Label) (d : Option Label) (ns : List Label) (h : ℕ) → slice_get program k ≡ Some (Start (of.Spawn u d ns h)) → d ≡ dues u
   pub step_due : (p : Label) (os : List Outline) (i : ℕ) (u : Label) (d : Option Label) (ns : List Label) (h : ℕ) → may p os → slice_get os i ≡ Some (of.Spawn u d ns h) → d ≡ dues u
 
--- for effects of one kind, puts or erases: an entry has such an effect in the effects of one unit alone, at one place
-pub record IsOnce (may : Label → List Outline → Type 0) (f : CellName → Outline) : Type 0 where
-  pub unit : (p q : Label) (os ps : List Outline) (i j : ℕ) (c : CellName) → may p os → may q ps → slice_get os i ≡ Some (f c) → slice_get ps j ≡ Some (f c) → p ≡ q
+-- only p spawns a unit of label q, and with these effects it spawns none
+pub record SpawnsNot (parent : Label → Option Label) (p : Label) (os : List Outline) (q : Label) : Type 0 where
+  pub spawner : parent q ≡ Some p
+  pub none : (i : ℕ) (o : Outline) → slice_get os i ≡ Some o → unit_of o ≡ Some q → ⊥
+
+-- for effects of one kind, puts or erases: where two units may have such an effect on one entry, they are one, or one is the
+-- other's spawner and with this effect doesn't spawn it; and a unit has it at one place
+pub record IsOnce (may : Label → List Outline → Type 0) (parent : Label → Option Label) (f : CellName → Outline) : Type 0 where
+  pub unit : (p q : Label) (os ps : List Outline) (i j : ℕ) (c : CellName) → may p os → may q ps → slice_get os i ≡ Some (f c) → slice_get ps j ≡ Some (f c)
+      → (p ≡ q) ⊎ (SpawnsNot parent p os q ⊎ SpawnsNot parent q ps p)
   pub place : (p : Label) (os : List Outline) (i j : ℕ) (c : CellName) → may p os → slice_get os i ≡ Some (f c) → slice_get os j ≡ Some (f c) → i ≡ j
 
 -- each spawn goes to the home of its unit's label and has the needs of this label; and a unit with needs has the home of

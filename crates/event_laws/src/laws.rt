@@ -32,7 +32,8 @@ pub fn a_label_has_one_bringer<A: Facts>()
     ensures { (app : A) → BringersAreOne (A.ranks_of app) (program_from 1 (A.kinds_of app) (A.starts_of app)) (A.may_do app) }
 {}
 
-/// Where each entry has one unit that puts it, or erases it, no two effects of begun tasks put it, or erase it.
+/// Where two units may put an entry, or erase it, only where one is the other's spawner and does it itself in place of
+/// spawning the other, no two effects of begun tasks put it, or erase it.
 pub fn effects_on_entries_are_apart<A: Facts>()
     ensures { (app : A) → EntriesAreApart (A.ranks_of app) (program_from 1 (A.kinds_of app) (A.starts_of app)) (A.may_do app) }
 {}

@@ -11,7 +11,7 @@ use Rattle.event_lists.proofs.FutureLemmas.{same_label_refl}
 use Rattle.event_laws.specs.Trees.{unit_of}
 use Rattle.event_laws.specs.Apart.{Apart}
 use Rattle.event_laws.specs.Held.{fences_before}
-use Rattle.event_laws.specs.Stages.{IsStaged, Comes, started, spawned, IsOfFence, AreUnits}
+use Rattle.event_laws.specs.Stages.{IsStaged, Comes, started, spawned, IsOfFence, AsPlanned, AreUnits}
 use Rattle.event_laws.proofs.Programs.{stages}
 use Rattle.small_app.specs.declared.unit.Unit.{Unit}
 use Rattle.small_app.specs.declared.unit.Unit.TheVariants.{Fill, Leaf, Sum, Clear, Read, Count, Total}
@@ -43,22 +43,25 @@ staged ranks = stages kinds (starts_of ranks) (MayDo ranks) (of_command ranks) (
 
 -- units
 
-fill_comes : (ranks : ℕ) → Comes (program ranks) (MayDo ranks) (label_of Fill) (home_of Fill ranks)
-fill_comes ranks = started 0 (label_of Fill) (due_of Fill) (needs_of Fill) (home_of Fill ranks) refl
+-- each unit comes up at its home, where those that spawn are of the kind
+pub comes : (ranks : ℕ) (Of : Label → Type 0) → Of (label_of Fill) → Of (label_of Sum) → (unit : Unit) → Comes (program ranks) (AsPlanned (plan ranks) Of) (label_of unit) (home_of unit ranks)
+comes ranks Of fill sum = go
+  where
+    filled : Comes (program ranks) (AsPlanned (plan ranks) Of) (label_of Fill) (home_of Fill ranks)
+    filled = started 0 (label_of Fill) (due_of Fill) (needs_of Fill) (home_of Fill ranks) refl
 
-sum_comes : (ranks : ℕ) → Comes (program ranks) (MayDo ranks) (label_of Sum) (home_of Sum ranks)
-sum_comes ranks = spawned (label_of Fill) (home_of Fill ranks) (outlines_of ranks Fill) 2 (label_of Sum) (due_of Sum) (needs_of Sum) (home_of Sum ranks) (fill_comes ranks) (Fill, tt, refl, refl) refl
+    summed : Comes (program ranks) (AsPlanned (plan ranks) Of) (label_of Sum) (home_of Sum ranks)
+    summed = spawned (label_of Fill) (home_of Fill ranks) (outlines_of ranks Fill) 2 (label_of Sum) (due_of Sum) (needs_of Sum) (home_of Sum ranks) filled (refl, fill) refl
 
--- each unit comes up at its home
-pub comes : (ranks : ℕ) (unit : Unit) → Comes (program ranks) (MayDo ranks) (label_of unit) (home_of unit ranks)
-comes ranks Fill = fill_comes ranks
-comes ranks (Leaf false value) = spawned (label_of Fill) (home_of Fill ranks) (outlines_of ranks Fill) 0 (leaf_future false) (Some (leaf_future false)) [] (home_of (Leaf false value) ranks) (fill_comes ranks) (Fill, tt, refl, refl) refl
-comes ranks (Leaf true value) = spawned (label_of Fill) (home_of Fill ranks) (outlines_of ranks Fill) 1 (leaf_future true) (Some (leaf_future true)) [] (home_of (Leaf true value) ranks) (fill_comes ranks) (Fill, tt, refl, refl) refl
-comes ranks Sum = sum_comes ranks
-comes ranks Clear = spawned (label_of Sum) (home_of Sum ranks) (outlines_of ranks Sum) 0 (label_of Clear) (due_of Clear) (needs_of Clear) (home_of Clear ranks) (sum_comes ranks) (Sum, tt, refl, refl) refl
-comes ranks Read = started 2 (label_of Read) (due_of Read) (needs_of Read) (home_of Read ranks) refl
-comes ranks Count = started 3 (label_of Count) (due_of Count) (needs_of Count) (home_of Count ranks) refl
-comes ranks Total = started 4 (label_of Total) (due_of Total) (needs_of Total) (home_of Total ranks) refl
+    go : (unit : Unit) → Comes (program ranks) (AsPlanned (plan ranks) Of) (label_of unit) (home_of unit ranks)
+    go Fill = filled
+    go (Leaf false value) = spawned (label_of Fill) (home_of Fill ranks) (outlines_of ranks Fill) 0 (leaf_future false) (Some (leaf_future false)) [] (home_of (Leaf false value) ranks) filled (refl, fill) refl
+    go (Leaf true value) = spawned (label_of Fill) (home_of Fill ranks) (outlines_of ranks Fill) 1 (leaf_future true) (Some (leaf_future true)) [] (home_of (Leaf true value) ranks) filled (refl, fill) refl
+    go Sum = summed
+    go Clear = spawned (label_of Sum) (home_of Sum ranks) (outlines_of ranks Sum) 0 (label_of Clear) (due_of Clear) (needs_of Clear) (home_of Clear ranks) summed (refl, sum) refl
+    go Read = started 2 (label_of Read) (due_of Read) (needs_of Read) (home_of Read ranks) refl
+    go Count = started 3 (label_of Count) (due_of Count) (needs_of Count) (home_of Count ranks) refl
+    go Total = started 4 (label_of Total) (due_of Total) (needs_of Total) (home_of Total ranks) refl
 
 -- and what comes up is a unit, at its home
 abbrev IsAUnit : ℕ → Label → ℕ → Type 0
@@ -176,9 +179,12 @@ pub first_are_units : (ranks : ℕ) → AreUnits (program ranks) (MayDo ranks) O
 first_are_units ranks = record {
   apart = first_apart;
   all = λ u q c is. let k = came ranks u q c in (subst (Contains first_units) k.2 (in_first k.0 (ap (λ (l : Label). l.command) k.2 ∙ is)), k.3);
-  only = of_first (λ u. Comes (program ranks) (MayDo ranks) u (home ranks u) × OfFirst u) (comes ranks Fill, refl) (comes ranks (Leaf false (leaf_value false)), refl) (comes ranks (Leaf true (leaf_value true)), refl) (comes ranks Sum, refl) (comes ranks Clear, refl);
+  only = of_first (λ u. Comes (program ranks) (AsPlanned (plan ranks) OfFirst) u (home ranks u) × OfFirst u) (first Fill, refl) (first (Leaf false (leaf_value false)), refl) (first (Leaf true (leaf_value true)), refl) (first Sum, refl) (first Clear, refl);
   plans = λ u os is m. planned ranks u os m;
 }
+  where
+    first : (unit : Unit) → Comes (program ranks) (AsPlanned (plan ranks) OfFirst) (label_of unit) (home_of unit ranks)
+    first = comes ranks OfFirst refl refl
 
 -- and of all commands before a fence
 abbrev pub OfFence : ℕ → Label → Type 0
@@ -219,13 +225,16 @@ units_are ranks (suc zero) = record {
   all = λ u q c is.
       let k = came ranks u q c in
       (subst (Contains first_units) k.2 (in_first k.0 (early_command k.0 (subst (λ (l : Label). stage l < 1) (sym k.2) is))), k.3);
-  only = of_first (λ u. Comes (program ranks) (MayDo ranks) u (home ranks u) × OfFence 1 u) (comes ranks Fill, omega arith) (comes ranks (Leaf false (leaf_value false)), omega arith) (comes ranks (Leaf true (leaf_value true)), omega arith) (comes ranks Sum, omega arith) (comes ranks Clear, omega arith);
+  only = of_first (λ u. Comes (program ranks) (AsPlanned (plan ranks) (OfFence 1)) u (home ranks u) × OfFence 1 u) (first Fill, omega arith) (first (Leaf false (leaf_value false)), omega arith) (first (Leaf true (leaf_value true)), omega arith) (first Sum, omega arith) (first Clear, omega arith);
   plans = λ u os is m. planned ranks u os m;
 }
+  where
+    first : (unit : Unit) → Comes (program ranks) (AsPlanned (plan ranks) (OfFence 1)) (label_of unit) (home_of unit ranks)
+    first = comes ranks (OfFence 1) (omega arith) (omega arith)
 units_are ranks (suc (suc fence)) = record {
   apart = whole_apart;
   all = λ u q c is. let k = came ranks u q c in (subst (Contains all_units) k.2 (in_all k.0), k.3);
-  only = of_all (λ u. Comes (program ranks) (MayDo ranks) u (home ranks u) × OfFence (suc (suc fence)) u)
-      (λ unit is. (subst (λ (q : ℕ). Comes (program ranks) (MayDo ranks) (label_of unit) q) (home_again ranks unit is) (comes ranks unit), few_fences unit fence));
+  only = of_all (λ u. Comes (program ranks) (AsPlanned (plan ranks) (OfFence (suc (suc fence)))) u (home ranks u) × OfFence (suc (suc fence)) u)
+      (λ unit is. (subst (λ (q : ℕ). Comes (program ranks) (AsPlanned (plan ranks) (OfFence (suc (suc fence)))) (label_of unit) q) (home_again ranks unit is) (comes ranks (OfFence (suc (suc fence))) (few_fences Fill fence) (few_fences Sum fence) unit), few_fences unit fence));
   plans = λ u os is m. planned ranks u os m;
 }

@@ -5,6 +5,7 @@ use Rattle.std.specs.Prelude.{Option, Some, None, IsSome, IfSome, ◌↔◌, sli
 use Rattle.std.specs.List.{AllByRecursion}
 use Rattle.app_core.specs.declared.Label.{Label}
 use Rattle.app_core.specs.declared.CellName.{CellName}
+use Rattle.app_core.specs.declared.Outline.{Outline}
 use Rattle.app_core.specs.Given.{Given}
 use Rattle.app_core.specs.Commands.{IsCommand, IsWork, IsRankCount}
 use Rattle.app_core.specs.Homes.{rank_within}
@@ -13,7 +14,7 @@ use Rattle.app_core.specs.Effects.{IsRightEffect, IsSpawnedWithNeeds, IsSpawn}
 use Rattle.app_core.specs.Outlines.{IsDueOnce, IsNeededOnce, IsNeededNever, IsSeenToOnce, GivesOnly, NeedingRunsAt, Names, Touches}
 use Rattle.small_app.specs.declared.unit.Unit.{Unit}
 use Rattle.small_app.specs.declared.unit.Unit.TheVariants.{Fill, Leaf, Sum, Clear, Read, Count, Total}
-use Rattle.small_app.specs.Small.{kinds, first_result, leaf_future, last_result, read_future, count_future, result_of, leaf_entry, label_of, due_of, needs_of, reads_of, counts_of, IsUnit, home_rule_of, home_of, kept_at, entry_home_of, starting_of, step_of, IsRightValue, IsRightCell, IsRightSize, told, MayDo, MayRead, MayCount}
+use Rattle.small_app.specs.Small.{kinds, first_result, leaf_future, last_result, read_future, count_future, result_of, leaf_entry, leaf_value, leaf_rank, label_of, due_of, needs_of, reads_of, counts_of, IsUnit, home_rule_of, home_of, kept_at, entry_home_of, starting_of, step_of, IsRightValue, IsRightCell, IsRightSize, told, MayDo, MayRead, MayCount}
 
 -- commands
 
@@ -350,6 +351,40 @@ steps_are_told ranks Clear given is = (Clear, is, refl, refl)
 steps_are_told ranks Read given is = (Read, is, refl, refl)
 steps_are_told ranks Count given is = (Count, is, refl, refl)
 steps_are_told ranks Total given is = (Total, is, refl, refl)
+
+-- inputs that are right for a unit
+abbrev right_inputs : ℕ → Unit → Given ℕ ℕ
+right_inputs ranks Fill = record { values = []; cells = []; size = 0 }
+right_inputs ranks (Leaf right value) = record { values = []; cells = []; size = 0 }
+right_inputs ranks Sum = record { values = leaf_value false ∷ leaf_value true ∷ []; cells = []; size = 0 }
+right_inputs ranks Clear = record { values = []; cells = []; size = 0 }
+right_inputs ranks Read = record { values = []; cells = leaf_value false ∷ []; size = 0 }
+right_inputs ranks Count = record { values = []; cells = []; size = if home_of Count ranks == rank_within ranks (leaf_rank false) then 1 else 0 }
+right_inputs ranks Total = record { values = 5 ∷ 1 ∷ []; cells = []; size = 0 }
+
+pub allowed_is_a_step : (ranks : ℕ) (label : Label) (allowed : List Outline) → MayDo ranks label allowed
+    → (unit : Unit) × (given : Given ℕ ℕ) × IsUnit unit × (label_of unit ≡ label)
+    × AreRightInputs IsRightValue IsRightCell (IsRightSize ranks) (needs_of unit) (reads_of unit) (counts_of unit) (home_of unit ranks) given
+    × (allowed ≡ told ranks (step_of unit given))
+allowed_is_a_step ranks label allowed (unit, is, named, lists) = (unit, right_inputs ranks unit, is, named, is_right unit, lists ∙ same unit)
+  where
+    is_right : (unit : Unit) → AreRightInputs IsRightValue IsRightCell (IsRightSize ranks) (needs_of unit) (reads_of unit) (counts_of unit) (home_of unit ranks) (right_inputs ranks unit)
+    is_right Fill = record { values = tt; cells = tt; size = refl }
+    is_right (Leaf right value) = record { values = tt; cells = tt; size = refl }
+    is_right Sum = record { values = (refl, (refl, tt)); cells = tt; size = refl }
+    is_right Clear = record { values = tt; cells = tt; size = refl }
+    is_right Read = record { values = tt; cells = (refl, tt); size = refl }
+    is_right Count = record { values = tt; cells = tt; size = refl }
+    is_right Total = record { values = (refl, (refl, tt)); cells = tt; size = refl }
+
+    same : (unit : Unit) → told ranks (step_of unit (record { values = []; cells = []; size = 0 })) ≡ told ranks (step_of unit (right_inputs ranks unit))
+    same Fill = refl
+    same (Leaf right value) = refl
+    same Sum = refl
+    same Clear = refl
+    same Read = refl
+    same Count = refl
+    same Total = refl
 
 pub reads_are_told : (unit : Unit) (entry : CellName) → IsUnit unit → Contains (reads_of unit) entry → MayRead (label_of unit) entry
 reads_are_told unit entry is reads = (unit, is, refl, reads)

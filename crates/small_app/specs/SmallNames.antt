@@ -1,6 +1,6 @@
 -- Who brings up each future of the small application, which units put and erase an entry, where its units are, and what
 -- the eraser waits for.
-use Rattle.std.proofs.Common.{◌≡◌, ◌≢◌, ℕ, zero, suc, ◌<◌, Bool, true, false, List, [], ◌∷◌, refl, sym, ap, subst, ◌∙◌, arith}
+use Rattle.std.proofs.Common.{◌≡◌, ◌≢◌, ℕ, zero, suc, ◌<◌, Bool, true, false, List, [], ◌∷◌, refl, sym, ap, subst, ◌∙◌, inl, arith}
 use Rattle.std.specs.Prelude.{Option, Some, None, slice_get, if◌then◌else◌, ◌==◌, Contains}
 use Rattle.app_core.specs.declared.Label.{Label}
 use Rattle.app_core.specs.declared.CellName.{CellName}
@@ -155,15 +155,15 @@ one_erase ranks p os i c m e = by_label ranks (λ p i o. (c : CellName) → o �
   total_gives = λ c e. absurd (cc);
 }) p os i (of.Erase c) m e c refl
 
-pub puts_once : (ranks : ℕ) → IsOnce (MayDo ranks) (λ c. of.Put c)
+pub puts_once : (ranks : ℕ) → IsOnce (MayDo ranks) parent (λ c. of.Put c)
 puts_once ranks = record {
-  unit = λ p q os ps i j c m n e f. (one_put ranks p os i c m e).0 ∙ sym (one_put ranks q ps j c n f).0;
+  unit = λ p q os ps i j c m n e f. inl ((one_put ranks p os i c m e).0 ∙ sym (one_put ranks q ps j c n f).0);
   place = λ p os i j c m e f. (one_put ranks p os i c m e).1 ∙ sym (one_put ranks p os j c m f).1;
 }
 
-pub erases_once : (ranks : ℕ) → IsOnce (MayDo ranks) (λ c. of.Erase c)
+pub erases_once : (ranks : ℕ) → IsOnce (MayDo ranks) parent (λ c. of.Erase c)
 erases_once ranks = record {
-  unit = λ p q os ps i j c m n e f. (one_erase ranks p os i c m e).0 ∙ sym (one_erase ranks q ps j c n f).0;
+  unit = λ p q os ps i j c m n e f. inl ((one_erase ranks p os i c m e).0 ∙ sym (one_erase ranks q ps j c n f).0);
   place = λ p os i j c m e f. (one_erase ranks p os i c m e).1 ∙ sym (one_erase ranks p os j c m f).1;
 }
 

@@ -149,7 +149,7 @@ impl App for SmallApp {
 
     ghost starts_are_spawns = { λ _ command _ is _. laws.starts_are_spawns command is };
 
-    ghost starts_are_right = { λ _ command _ is _. laws.starts_are_right command is };
+    ghost starts_are_right = { λ _ command is. laws.starts_are_right command is };
 
     ghost starts_have_their_needs = { λ _ command _ is _. laws.starts_have_their_needs command is };
 
@@ -204,6 +204,8 @@ impl App for SmallApp {
     ghost starts_are_told = { λ _ _ _. refl };
 
     ghost steps_are_told = { λ app unit given is _. laws.steps_are_told app.ranks unit given is };
+
+    ghost allowed_is_a_step = { λ app label allowed may. laws.allowed_is_a_step app.ranks label allowed may };
 
     ghost futures_are_told = { λ _ _. refl };
 
