@@ -1,7 +1,10 @@
+pub mod Guess
 pub mod Small
+pub mod GuessLaws
 pub mod SmallLaws
 pub mod SmallUnits
 pub mod SmallTree
 pub mod SmallNames
 pub mod SmallComes
 pub mod SmallHeld
+pub mod SmallRun

@@ -6,6 +6,7 @@ use Rattle.app_core.specs.declared.Label.{Label}
 use Rattle.app_core.specs.declared.CellName.{CellName}
 use Rattle.app_core.specs.declared.Outline.{Outline}
 use Rattle.app_core.specs.declared.Outline.TheVariants as of
+use Rattle.app_core.specs.Given.{Given}
 use Rattle.app_core.specs.Homes.{rank_within}
 use Rattle.app_core.specs.Outlines.{Touches}
 use Rattle.event_lists.specs.declared.lane.LaneName.{LaneName}
@@ -15,7 +16,7 @@ use Rattle.event_lists.specs.Events.{part}
 use Rattle.event_lists.specs.Bins.{is_put}
 use Rattle.event_laws.specs.Follows.{Plans, IsRun, bin_of}
 use Rattle.event_laws.specs.Apart.{Apart, spawned, HasOneBringer, EffectsApart, ErasesPut}
-use Rattle.event_laws.specs.Held.{HasReceipt, IsBefore, ComesAfter, BinsHold, AreDifferent, HasNoWriter, all_told, entry, fences_before}
+use Rattle.event_laws.specs.Held.{HasReceipt, IsBefore, ComesAfter, BinsHold, AreDifferent, AllSound, HasNoWriter, all_told, entry, fences_before}
 use Rattle.event_laws.specs.Stages.{UnitHas}
 use Rattle.event_laws.proofs.Sources.{apart}
 use Rattle.event_laws.proofs.Bringers.{one_bringer, effects_apart}
@@ -23,9 +24,11 @@ use Rattle.event_laws.proofs.Erasing.{erases_put}
 use Rattle.event_laws.proofs.Units.{units_lie}
 use Rattle.event_laws.proofs.Totals.{all_counted}
 use Rattle.small_app.specs.declared.unit.Unit.{Unit}
-use Rattle.small_app.specs.declared.unit.Unit.TheVariants.{Fill, Leaf, Sum, Clear, Read, Count, Total}
-use Rattle.small_app.specs.Small.{kinds, leaf_entry, leaf_future, leaf_value, leaf_rank, label_of, home_of, entry_home_of, reads_of, counts_of, dropped_of, IsRightSize, MayDo, MayRead, MayCount}
-use Rattle.small_app.specs.SmallUnits.{program, unit_at, outlines_of, plan, home, parent, raiser, dues, needs, first_units, units_before, writer_of, holds, total_of}
+use Rattle.small_app.specs.declared.unit.Unit.TheVariants.{Fill, Leaf, Sum, Clear, Read, Count, Total, Guessed}
+use Rattle.small_app.specs.Guess.{guess_entry}
+use Rattle.small_app.specs.GuessLaws.{command_is, touches_its_entry}
+use Rattle.small_app.specs.Small.{kinds, leaf_entry, leaf_future, leaf_value, leaf_rank, label_of, home_of, entry_home_of, reads_of, counts_of, dropped_of, IsRightSize, step_of, told, MayDo, MayRead, MayCount}
+use Rattle.small_app.specs.SmallUnits.{program, unit_at, no_inputs, outlines_of, IsSound, plan, home, parent, raiser, dues, needs, first_units, units_before, writer_of, holds, total_of}
 use Rattle.small_app.specs.SmallTree.{by_outline, by_label, tree}
 use Rattle.small_app.specs.SmallNames.{futures, places, puts_once, erases_once, eraser_waits}
 use Rattle.small_app.specs.SmallComes.{stage, staged, OfFirst, first_is_before, first_are_units, units_are}
@@ -46,20 +49,30 @@ leaf_at : (ranks : ℕ) (right : Bool) (value : ℕ) (c : CellName) → of.Put (
 leaf_at ranks false value c e = inl (let z : leaf_entry false ≡ c = cc in sym z, refl)
 leaf_at ranks true value c e = inr (let z : leaf_entry true ≡ c = cc in sym z, refl)
 
-puts_leaf : (ranks : ℕ) (unit : Unit) (i : ℕ) (c : CellName) → slice_get (outlines_of ranks unit) i ≡ Some (of.Put c) → IsLeafEntry ranks c (home_of unit ranks)
-puts_leaf ranks unit i c e = by_outline ranks (λ unit i o. (c : CellName) → o ≡ of.Put c → IsLeafEntry ranks c (home_of unit ranks)) (record {
-  left = λ c e. absurd (cc);
-  right = λ c e. absurd (cc);
-  sum = λ c e. absurd (cc);
-  put = λ right value c e. leaf_at ranks right value c e;
-  leaf_gives = λ _ _ c e. absurd (cc);
-  clear = λ c e. absurd (cc);
-  sum_gives = λ c e. absurd (cc);
-  erase = λ c e. absurd (cc);
-  read_gives = λ c e. absurd (cc);
-  count_gives = λ c e. absurd (cc);
-  total_gives = λ c e. absurd (cc);
-}) unit i (of.Put c) e c refl
+not_guess : {A : Type 0} (c : CellName) → c.version ≡ 1 → of.Put guess_entry ≡ of.Put c → A
+not_guess c one e = absurd (let z : guess_entry ≡ c = cc in let two : 2 ≡ c.version = ap (λ (n : CellName). n.version) z in omega (arith, one, two))
+
+-- what is put of version 1 is a leaf's entry
+puts_leaf : (ranks : ℕ) (unit : Unit) (i : ℕ) (c : CellName) → c.version ≡ 1 → slice_get (outlines_of ranks unit) i ≡ Some (of.Put c) → IsLeafEntry ranks c (home_of unit ranks)
+puts_leaf ranks unit i c one e = by_outline ranks (λ unit i o. (c : CellName) → c.version ≡ 1 → o ≡ of.Put c → IsLeafEntry ranks c (home_of unit ranks)) (record {
+  left = λ c one e. absurd (cc);
+  right = λ c one e. absurd (cc);
+  sum = λ c one e. absurd (cc);
+  put = λ right value c one e. leaf_at ranks right value c e;
+  leaf_gives = λ _ _ c one e. absurd (cc);
+  clear = λ c one e. absurd (cc);
+  sum_gives = λ c one e. absurd (cc);
+  erase = λ c one e. absurd (cc);
+  read_gives = λ c one e. absurd (cc);
+  count_gives = λ c one e. absurd (cc);
+  total_gives = λ c one e. absurd (cc);
+  guess_gives = λ c one e. absurd (cc);
+  early_puts = λ c one e. not_guess c one e;
+  early_gives = λ c one e. absurd (cc);
+  late = λ c one e. absurd (cc);
+  late_puts = λ c one e. not_guess c one e;
+  late_gives = λ c one e. absurd (cc);
+}) unit no_inputs i (of.Put c) e c one refl
 
 erases_right : (ranks : ℕ) (unit : Unit) (i : ℕ) (c : CellName) → slice_get (outlines_of ranks unit) i ≡ Some (of.Erase c) → c ≡ leaf_entry true
 erases_right ranks unit i c e = by_outline ranks (λ unit i o. (c : CellName) → o ≡ of.Erase c → c ≡ leaf_entry true) (record {
@@ -74,15 +87,21 @@ erases_right ranks unit i c e = by_outline ranks (λ unit i o. (c : CellName) �
   read_gives = λ c e. absurd (cc);
   count_gives = λ c e. absurd (cc);
   total_gives = λ c e. absurd (cc);
-}) unit i (of.Erase c) e c refl
+  guess_gives = λ c e. absurd (cc);
+  early_puts = λ c e. absurd (cc);
+  early_gives = λ c e. absurd (cc);
+  late = λ c e. absurd (cc);
+  late_puts = λ c e. absurd (cc);
+  late_gives = λ c e. absurd (cc);
+}) unit no_inputs i (of.Erase c) e c refl
 
--- who puts or erases is of the first command
+-- who puts or erases an entry of version 1 is of the first command
 leaf_command : (right : Bool) → (leaf_future right).command ≡ 1
 leaf_command false = refl
 leaf_command true = refl
 
-writes_first : (ranks : ℕ) (c : CellName) (p : Label) (os : List Outline) (i : ℕ) (o : Outline) → MayDo ranks p os → slice_get os i ≡ Some o → (o ≡ of.Put c) ⊎ (o ≡ of.Erase c) → OfFirst p
-writes_first ranks c p os i o m e kind = by_label ranks (λ p i o. (o ≡ of.Put c) ⊎ (o ≡ of.Erase c) → OfFirst p) (record {
+writes_first : (ranks : ℕ) (c : CellName) → c.version ≡ 1 → (p : Label) (os : List Outline) (i : ℕ) (o : Outline) → MayDo ranks p os → slice_get os i ≡ Some o → (o ≡ of.Put c) ⊎ (o ≡ of.Erase c) → OfFirst p
+writes_first ranks c one p os i o m e kind = by_label ranks (λ p i o. (o ≡ of.Put c) ⊎ (o ≡ of.Erase c) → OfFirst p) (record {
   left = λ k. refl;
   right = λ k. refl;
   sum = λ k. refl;
@@ -94,6 +113,12 @@ writes_first ranks c p os i o m e kind = by_label ranks (λ p i o. (o ≡ of.Put
   read_gives = λ k. ⊎_elim (λ e. absurd (cc)) (λ e. absurd (cc)) k;
   count_gives = λ k. ⊎_elim (λ e. absurd (cc)) (λ e. absurd (cc)) k;
   total_gives = λ k. ⊎_elim (λ e. absurd (cc)) (λ e. absurd (cc)) k;
+  guess_gives = λ k. ⊎_elim (λ e. absurd (cc)) (λ e. absurd (cc)) k;
+  early_puts = λ k. ⊎_elim (λ e. not_guess c one e) (λ e. absurd (cc)) k;
+  early_gives = λ k. ⊎_elim (λ e. absurd (cc)) (λ e. absurd (cc)) k;
+  late = λ k. ⊎_elim (λ e. absurd (cc)) (λ e. absurd (cc)) k;
+  late_puts = λ k. ⊎_elim (λ e. not_guess c one e) (λ e. absurd (cc)) k;
+  late_gives = λ k. ⊎_elim (λ e. absurd (cc)) (λ e. absurd (cc)) k;
 }) p os i o m e kind
 
 -- the places that a rank holds: the left one, or none
@@ -124,7 +149,7 @@ module _ (ranks : ℕ) where
   lies_held rank place h kept = ⊎_elim
       (λ l. holds_left (rank == left_rank ranks) place (eq-eqb rank (left_rank ranks) (sym h.there ∙ left l.1)) (ap (λ (c : CellName). c.place) l.0))
       (λ r. absurd (kept (subst (λ (c : CellName). Has rank (of.Erase c)) (sym r.0) (subst (λ (q : ℕ). Has q (of.Erase (leaf_entry true))) (r.1 ∙ h.there) right_erased))))
-      (puts_leaf ranks (unit_at h.unit) h.at (entry 1 place) h.here)
+      (puts_leaf ranks (unit_at h.unit) h.at (entry 1 place) refl h.here)
     where
       left : left_rank ranks ≡ home ranks h.unit → home ranks h.unit ≡ left_rank ranks
       left e = sym e
@@ -139,12 +164,17 @@ module _ (ranks : ℕ) where
 
 -- the laws
 
-writer_is : (version command : ℕ) → writer_of version ≡ Some command → (version ≡ 1) × (command ≡ 1)
-writer_is version command e = go (version == 1) refl e
+-- of the sound commands the first alone writes, and it writes version 1
+writer_is : (version command : ℕ) → writer_of version ≡ Some command → IsSound command → (version ≡ 1) × (command ≡ 1)
+writer_is version command e sound = go (version == 1) refl e
   where
-    go : (b : Bool) → (version == 1) ≡ b → (if b then Some 1 else None) ≡ Some command → (version ≡ 1) × (command ≡ 1)
+    last : (b : Bool) → (if b then Some 5 else None) ≡ Some command → (version ≡ 1) × (command ≡ 1)
+    last true e = absurd (let z : 5 ≡ command = cc in omega (arith, z, sound))
+    last false e = absurd (cc)
+
+    go : (b : Bool) → (version == 1) ≡ b → (if b then Some 1 else if version == 2 then Some 5 else None) ≡ Some command → (version ≡ 1) × (command ≡ 1)
     go true t e = (eqb-true version 1 t, (let z : 1 ≡ command = cc in sym z))
-    go false t e = absurd (cc)
+    go false t e = last (version == 2) e
 
 pub spawns_apart : (ranks : ℕ) (plans : Plans) (log : List Mark) (workers : ℕ) → IsRun ranks workers (program ranks) (MayDo ranks) plans log → Apart (spawned log)
 spawns_apart ranks plans log workers run = apart ranks workers (program ranks) (MayDo ranks) plans log run parent (tree ranks)
@@ -162,17 +192,17 @@ pub erased_was_put : (ranks : ℕ) (plans : Plans) (log : List Mark) (workers : 
 erased_was_put ranks plans log workers run = erases_put ranks workers (program ranks) (MayDo ranks) plans log run parent (tree ranks) (home ranks) needs (places ranks) (eraser_waits ranks)
 
 pub bins_hold : (ranks : ℕ) (plans : Plans) (log before : List Mark) (workers : ℕ) (x : Mark) (r : Receipt) (version command : ℕ)
-    → IsRun ranks workers (program ranks) (MayDo ranks) plans log → HasReceipt log before x r → writer_of version ≡ Some command → IsBefore kinds command r.fence
+    → IsRun ranks workers (program ranks) (MayDo ranks) plans log → HasReceipt log before x r → writer_of version ≡ Some command → IsSound command → IsBefore kinds command r.fence
     → BinsHold ranks (holds ranks) version before × BinsHold ranks (holds ranks) version log
-bins_hold ranks plans log before workers x r version command run has w early =
-    let is = writer_is version command w in
+bins_hold ranks plans log before workers x r version command run has w sound early =
+    let is = writer_is version command w sound in
     let some : 0 < r.fence = subst (λ (z : ℕ). fences_before z kinds < r.fence) is.1 early in
     subst (λ (v : ℕ). BinsHold ranks (holds ranks) v before × BinsHold ranks (holds ranks) v log) (sym is.0) ((λ l place b i. now some l place), (λ l place b i. later some l place))
   where
     lie : 0 < r.fence → (l : LaneName) (place : ℕ) → ((is_put (entry 1 place) (part l before) ≡ true) ↔ (UnitHas (plan ranks) (home ranks) first_units l.rank (of.Put (entry 1 place)) × (UnitHas (plan ranks) (home ranks) first_units l.rank (of.Erase (entry 1 place)) → ⊥) × (l ≡ bin_of l.rank (entry 1 place))))
         × (is_put (entry 1 place) (part l log) ≡ is_put (entry 1 place) (part l before))
     lie some l place = units_lie ranks workers (program ranks) (MayDo ranks) plans log before x r run has stage (staged ranks) OfFirst (first_is_before ranks r.fence some) (plan ranks) (home ranks) first_units (first_are_units ranks)
-        (puts_apart ranks plans log workers run) (entry 1 place) (writes_first ranks (entry 1 place)) l
+        (puts_apart ranks plans log workers run) (entry 1 place) (writes_first ranks (entry 1 place) refl) l
 
     now : 0 < r.fence → (l : LaneName) (place : ℕ) → (is_put (entry 1 place) (part l before) ≡ true) ↔ (Contains (holds ranks l.rank 1) place × (l ≡ bin_of l.rank (entry 1 place)))
     now some l place =
@@ -184,9 +214,9 @@ bins_hold ranks plans log before workers x r version command run has w early =
     later : 0 < r.fence → (l : LaneName) (place : ℕ) → (is_put (entry 1 place) (part l log) ≡ true) ↔ (Contains (holds ranks l.rank 1) place × (l ≡ bin_of l.rank (entry 1 place)))
     later some l place = subst (λ (b : Bool). (b ≡ true) ↔ (Contains (holds ranks l.rank 1) place × (l ≡ bin_of l.rank (entry 1 place)))) (sym (lie some l place).1) (now some l place)
 
-pub sizes_are_right : (ranks rank version command : ℕ) → writer_of version ≡ Some command → IsRightSize ranks rank version (length (holds ranks rank version)) × AreDifferent (holds ranks rank version)
-sizes_are_right ranks rank version command w =
-    subst (λ (v : ℕ). IsRightSize ranks rank v (length (holds ranks rank v)) × AreDifferent (holds ranks rank v)) (sym (writer_is version command w).0) (size (rank == left_rank ranks), different (rank == left_rank ranks))
+pub sizes_are_right : (ranks rank version command : ℕ) → writer_of version ≡ Some command → IsSound command → IsRightSize ranks rank version (length (holds ranks rank version)) × AreDifferent (holds ranks rank version)
+sizes_are_right ranks rank version command w sound =
+    subst (λ (v : ℕ). IsRightSize ranks rank v (length (holds ranks rank v)) × AreDifferent (holds ranks rank v)) (sym (writer_is version command w sound).0) (size (rank == left_rank ranks), different (rank == left_rank ranks))
   where
     size : (b : Bool) → length (held_if b) ≡ (if b then 1 else 0)
     size true = refl
@@ -196,17 +226,23 @@ sizes_are_right ranks rank version command w =
     different true = λ i j d lt below. absurd (omega (arith, lt, below))
     different false = λ i j d lt below. absurd (omega (arith, lt, below))
 
-pub other_sizes_are_right : (ranks rank version number : ℕ) → HasNoWriter writer_of (λ _. ⊤) version → IsRightSize ranks rank version number
+pub other_sizes_are_right : (ranks rank version number : ℕ) → HasNoWriter writer_of IsSound version → IsRightSize ranks rank version number
 other_sizes_are_right ranks rank version number none = go (version == 1) refl
   where
     go : (b : Bool) → (version == 1) ≡ b → MatchBool b (number ≡ (if rank == left_rank ranks then 1 else 0)) ⊤
-    go true e = absurd (none 1 (ap (λ (b : Bool). if b then Some 1 else None) e) tt)
+    go true e = absurd (none 1 (ap (λ (b : Bool). if b then Some 1 else if version == 2 then Some 5 else None) e) (omega arith))
     go false e = tt
 
 pub totals_are_told : (ranks : ℕ) (plans : Plans) (log before : List Mark) (workers : ℕ) (x : Mark) (r : Receipt)
-    → IsRun ranks workers (program ranks) (MayDo ranks) plans log → HasReceipt log before x r → all_told r ≡ total_of ranks r.fence
-totals_are_told ranks plans log before workers x r run has = all_counted ranks workers (program ranks) (MayDo ranks) plans log before x r run has (spawns_apart ranks plans log workers run)
-    stage (staged ranks) (plan ranks) (home ranks) (units_before r.fence) (units_are ranks r.fence)
+    → IsRun ranks workers (program ranks) (MayDo ranks) plans log → HasReceipt log before x r → AllSound kinds IsSound r.fence → all_told r ≡ total_of ranks r.fence
+totals_are_told ranks plans log before workers x r run has sound = all_counted ranks workers (program ranks) (MayDo ranks) plans log before x r run has (spawns_apart ranks plans log workers run)
+    stage (staged ranks) (plan ranks) (home ranks) (units_before r.fence) (units_are ranks r.fence (few r.fence sound))
+  where
+    few : (fence : ℕ) → AllSound kinds IsSound fence → fence < 3
+    few zero sound = omega arith
+    few (suc zero) sound = omega arith
+    few (suc (suc zero)) sound = omega arith
+    few (suc (suc (suc fence))) sound = absurd (let lt = sound 5 (omega arith, omega arith) (omega arith) in omega (arith, lt))
 
 pub reads_are_held : (ranks : ℕ) (label : Label) (c : CellName) → MayRead label c → Contains (holds ranks (entry_home_of ranks c) c.version) c.place
 reads_are_held ranks label c (unit, is, named, (k, lt, e)) = go unit k lt e
@@ -220,6 +256,7 @@ reads_are_held ranks label c (unit, is, named, (k, lt, e)) = go unit k lt e
     go Read (suc k) lt e = absurd (omega (arith, lt))
     go Count k lt e = absurd (omega (arith, lt))
     go Total k lt e = absurd (omega (arith, lt))
+    go (Guessed unit) k lt e = absurd (omega (arith, lt))
 
 -- a version is counted by the unit of that label alone
 counted : (P : Label → ℕ → Type 0) → P (label_of Count) 1 → (label : Label) (version : ℕ) → MayCount label version → P label version
@@ -233,6 +270,7 @@ counted P p label version (unit, is, named, e) = subst (λ (l : Label). P l vers
     go Read e = absurd (cc)
     go Count e = subst (P (label_of Count)) (let z : 1 ≡ version = cc in z) p
     go Total e = absurd (cc)
+    go (Guessed unit) e = absurd (cc)
 
 read_by : (P : Label → Type 0) → P (label_of Read) → (label : Label) (c : CellName) → MayRead label c → P label
 read_by P p label c (unit, is, named, (k, lt, e)) = subst P named (go unit lt)
@@ -245,6 +283,7 @@ read_by P p label c (unit, is, named, (k, lt, e)) = subst P named (go unit lt)
     go Read lt = p
     go Count lt = absurd (omega (arith, lt))
     go Total lt = absurd (omega (arith, lt))
+    go (Guessed unit) lt = absurd (omega (arith, lt))
 
 pub counts_come_after : (label : Label) (version : ℕ) → MayCount label version → ComesAfter kinds (writer_of version) label.command
 counts_come_after = counted (λ label version. ComesAfter kinds (writer_of version) label.command) (record { by = 1; fence = 1; writes = refl; before = omega arith; after = omega arith })
@@ -258,18 +297,19 @@ written : (b : ℕ) (c : CellName) → c.version ≡ 1 → b ≡ 1 → writer_of
 written b c v one = ap writer_of v ∙ ap Some (sym one)
 
 pub writes_are_of_the_command : (ranks : ℕ) (label : Label) (os : List Outline) (c : CellName) → MayDo ranks label os → Touches os c → writer_of c.version ≡ Some label.command
-writes_are_of_the_command ranks label os c (unit, is, named, lists) touches = subst (λ (l : Label). writer_of c.version ≡ Some l.command) named (go unit (subst (λ (z : List Outline). Touches z c) lists touches))
+writes_are_of_the_command ranks label os c (unit, given, is, named, right, lists) touches = subst (λ (l : Label). writer_of c.version ≡ Some l.command) named (go unit given (subst (λ (z : List Outline). Touches z c) lists touches))
   where
-    go : (unit : Unit) → Touches (outlines_of ranks unit) c → writer_of c.version ≡ Some (label_of unit).command
-    go Fill (k, lt, e) = absurd (omega (arith, lt))
-    go (Leaf right value) (zero, lt, e) = written (label_of (Leaf right value)).command c (ap (λ (z : CellName). z.version) (sym e) ∙ leaf_version right) (leaf_command right)
-    go (Leaf right value) (suc k, lt, e) = absurd (omega (arith, lt))
-    go Sum (k, lt, e) = absurd (omega (arith, lt))
-    go Clear (zero, lt, e) = written 1 c (ap (λ (z : CellName). z.version) (sym e)) refl
-    go Clear (suc k, lt, e) = absurd (omega (arith, lt))
-    go Read (k, lt, e) = absurd (omega (arith, lt))
-    go Count (k, lt, e) = absurd (omega (arith, lt))
-    go Total (k, lt, e) = absurd (omega (arith, lt))
+    go : (unit : Unit) (given : Given ℕ ℕ) → Touches (told ranks (step_of unit given)) c → writer_of c.version ≡ Some (label_of unit).command
+    go Fill given (k, lt, e) = absurd (omega (arith, lt))
+    go (Leaf right value) given (zero, lt, e) = written (label_of (Leaf right value)).command c (ap (λ (z : CellName). z.version) (sym e) ∙ leaf_version right) (leaf_command right)
+    go (Leaf right value) given (suc k, lt, e) = absurd (omega (arith, lt))
+    go Sum given (k, lt, e) = absurd (omega (arith, lt))
+    go Clear given (zero, lt, e) = written 1 c (ap (λ (z : CellName). z.version) (sym e)) refl
+    go Clear given (suc k, lt, e) = absurd (omega (arith, lt))
+    go Read given (k, lt, e) = absurd (omega (arith, lt))
+    go Count given (k, lt, e) = absurd (omega (arith, lt))
+    go Total given (k, lt, e) = absurd (omega (arith, lt))
+    go (Guessed unit) given touches = ap (λ (z : CellName). writer_of z.version) (touches_its_entry ranks unit given c touches).0 ∙ ap Some (sym (command_is unit))
 
 -- version 1 is dropped at fence 2
 dropped : (fence i version : ℕ) → slice_get (dropped_of fence) i ≡ Some version → (fence ≡ 2) × (i ≡ 0) × (version ≡ 1)

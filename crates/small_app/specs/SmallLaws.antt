@@ -5,7 +5,6 @@ use Rattle.std.specs.Prelude.{Option, Some, None, IsSome, IfSome, ◌↔◌, sli
 use Rattle.std.specs.List.{AllByRecursion}
 use Rattle.app_core.specs.declared.Label.{Label}
 use Rattle.app_core.specs.declared.CellName.{CellName}
-use Rattle.app_core.specs.declared.Outline.{Outline}
 use Rattle.app_core.specs.Given.{Given}
 use Rattle.app_core.specs.Commands.{IsCommand, IsWork, IsRankCount}
 use Rattle.app_core.specs.Homes.{rank_within}
@@ -13,41 +12,48 @@ use Rattle.app_core.specs.Inputs.{AreRight, AreRightInputs}
 use Rattle.app_core.specs.Effects.{IsRightEffect, IsSpawnedWithNeeds, IsSpawn}
 use Rattle.app_core.specs.Outlines.{IsDueOnce, IsNeededOnce, IsNeededNever, IsSeenToOnce, GivesOnly, NeedingRunsAt, Names, Touches}
 use Rattle.small_app.specs.declared.unit.Unit.{Unit}
-use Rattle.small_app.specs.declared.unit.Unit.TheVariants.{Fill, Leaf, Sum, Clear, Read, Count, Total}
-use Rattle.small_app.specs.Small.{kinds, first_result, leaf_future, last_result, read_future, count_future, result_of, leaf_entry, leaf_value, leaf_rank, label_of, due_of, needs_of, reads_of, counts_of, IsUnit, home_rule_of, home_of, kept_at, entry_home_of, starting_of, step_of, IsRightValue, IsRightCell, IsRightSize, told, MayDo, MayRead, MayCount}
+use Rattle.small_app.specs.declared.unit.Unit.TheVariants.{Fill, Leaf, Sum, Clear, Read, Count, Total, Guessed}
+use Rattle.small_app.specs.declared.guess.GuessUnit.TheVariants.{Guess, Early, Late}
+use Rattle.small_app.specs.Guess.{guess_result}
+use Rattle.small_app.specs.GuessLaws as guess
+use Rattle.small_app.specs.Small.{kinds, first_result, leaf_future, last_result, read_future, count_future, result_of, leaf_entry, label_of, due_of, needs_of, reads_of, counts_of, IsUnit, home_rule_of, home_of, kept_at, entry_home_of, starting_of, step_of, IsRightValue, IsRightCell, IsRightSize, told, MayRead, MayCount}
 
 -- commands
 
--- of the commands, 1 and 3 are work and 2 is a fence
-by_command : (P : ℕ → Type 0) → P 1 → P 2 → P 3 → (command : ℕ) → IsCommand kinds command → P command
-by_command P one two three zero is = absurd (omega (arith, is.0))
-by_command P one two three (suc zero) is = one
-by_command P one two three (suc (suc zero)) is = two
-by_command P one two three (suc (suc (suc zero))) is = three
-by_command P one two three (suc (suc (suc (suc more)))) is = absurd (omega (arith, is.1))
+-- of the commands, 1, 3 and 5 are work, and 2 and 4 are fences
+by_command : (P : ℕ → Type 0) → P 1 → P 2 → P 3 → P 4 → P 5 → (command : ℕ) → IsCommand kinds command → P command
+by_command P one two three four five zero is = absurd (omega (arith, is.0))
+by_command P one two three four five (suc zero) is = one
+by_command P one two three four five (suc (suc zero)) is = two
+by_command P one two three four five (suc (suc (suc zero))) is = three
+by_command P one two three four five (suc (suc (suc (suc zero)))) is = four
+by_command P one two three four five (suc (suc (suc (suc (suc zero))))) is = five
+by_command P one two three four five (suc (suc (suc (suc (suc (suc more)))))) is = absurd (omega (arith, is.1))
 
 pub results : (command : ℕ) → IsCommand kinds command → IsSome (result_of command) ↔ IsWork kinds command
-results = by_command (λ command. IsSome (result_of command) ↔ IsWork kinds command) ((λ _. refl), (λ _. refl)) ((λ e. cc), (λ e. cc)) ((λ _. refl), (λ _. refl))
+results = by_command (λ command. IsSome (result_of command) ↔ IsWork kinds command) ((λ _. refl), (λ _. refl)) ((λ e. cc), (λ e. cc)) ((λ _. refl), (λ _. refl)) ((λ e. cc), (λ e. cc)) ((λ _. refl), (λ _. refl))
 
 pub few_starts : (command : ℕ) → IsCommand kinds command → length (starting_of command) ≤ 2 ^ 16
-few_starts = by_command (λ command. length (starting_of command) ≤ 2 ^ 16) (omega arith) (omega arith) (omega arith)
+few_starts = by_command (λ command. length (starting_of command) ≤ 2 ^ 16) (omega arith) (omega arith) (omega arith) (omega arith) (omega arith)
 
 pub starts_are_spawns : (command : ℕ) → IsWork kinds command → AllByRecursion (IsSpawn {U = Unit} {V = ℕ} {C = ℕ}) (starting_of command)
 starts_are_spawns zero is = tt
 starts_are_spawns (suc zero) is = (tt, tt)
 starts_are_spawns (suc (suc zero)) is = tt
 starts_are_spawns (suc (suc (suc zero))) is = (tt, (tt, (tt, tt)))
-starts_are_spawns (suc (suc (suc (suc more)))) is = absurd (cc)
+starts_are_spawns (suc (suc (suc (suc zero)))) is = tt
+starts_are_spawns (suc (suc (suc (suc (suc zero))))) is = (tt, (tt, tt))
+starts_are_spawns (suc (suc (suc (suc (suc (suc more)))))) is = absurd (cc)
 
 pub starts_are_right : (command : ℕ) → IsCommand kinds command → AllByRecursion (IsRightEffect {U = Unit} {V = ℕ} {C = ℕ} IsRightValue IsRightCell IsUnit) (starting_of command)
-starts_are_right = by_command (λ command. AllByRecursion (IsRightEffect {U = Unit} {V = ℕ} {C = ℕ} IsRightValue IsRightCell IsUnit) (starting_of command)) (tt, tt) tt (tt, (tt, (tt, tt)))
+starts_are_right = by_command (λ command. AllByRecursion (IsRightEffect {U = Unit} {V = ℕ} {C = ℕ} IsRightValue IsRightCell IsUnit) (starting_of command)) (tt, tt) tt (tt, (tt, (tt, tt))) tt (tt, (tt, tt))
 
 -- the list isn't empty
 filled : (l : Label) (ls : List Label) → l ∷ ls ≢ []
 filled l ls e = cc
 
 pub starts_have_their_needs : (command : ℕ) → IsCommand kinds command → AllByRecursion (IsSpawnedWithNeeds {U = Unit} {V = ℕ} {C = ℕ} needs_of) (starting_of command)
-starts_have_their_needs = by_command (λ command. AllByRecursion (IsSpawnedWithNeeds {U = Unit} {V = ℕ} {C = ℕ} needs_of) (starting_of command)) (refl, tt) tt (refl, (refl, ((refl, filled _ _), tt)))
+starts_have_their_needs = by_command (λ command. AllByRecursion (IsSpawnedWithNeeds {U = Unit} {V = ℕ} {C = ℕ} needs_of) (starting_of command)) (refl, tt) tt (refl, (refl, ((refl, filled _ _), tt))) tt (refl, ((refl, filled _ _), tt))
 
 -- where rank 0 is named, it is taken
 first_rank : (ranks : ℕ) → rank_within ranks (Some 0) ≡ 0
@@ -60,9 +66,10 @@ first_rank ranks = either (nat_lt 0 ranks) 0
 pub starts_with_needs_run_at_zero : (ranks command : ℕ) → IsCommand kinds command → AllByRecursion (NeedingRunsAt 0) (told ranks (starting_of command))
 starts_with_needs_run_at_zero ranks = by_command (λ command. AllByRecursion (NeedingRunsAt 0) (told ranks (starting_of command)))
     ((λ some. absurd (some refl)), tt) tt ((λ some. absurd (some refl)), ((λ some. absurd (some refl)), ((λ _. first_rank ranks), tt)))
+    tt ((λ some. absurd (some refl)), ((λ _. first_rank ranks), tt))
 
 pub starts_name_their_command : (ranks command : ℕ) (future : Label) → IsCommand kinds command → Names (told ranks (starting_of command)) future → future.command ≡ command
-starts_name_their_command ranks command future is = by_command (λ command. Names (told ranks (starting_of command)) future → future.command ≡ command) one two three command is
+starts_name_their_command ranks command future is = by_command (λ command. Names (told ranks (starting_of command)) future → future.command ≡ command) one two three four five command is
   where
     one : Names (told ranks (starting_of 1)) future → future.command ≡ 1
     one (zero, lt, e) = ap (λ (l : Label). l.command) (sym e)
@@ -79,8 +86,17 @@ starts_name_their_command ranks command future is = by_command (λ command. Name
     three (suc (suc (suc (suc zero))), lt, e) = ap (λ (l : Label). l.command) (sym e)
     three (suc (suc (suc (suc (suc k)))), lt, e) = absurd (omega (arith, lt))
 
+    four : Names (told ranks (starting_of 4)) future → future.command ≡ 4
+    four (k, lt, e) = absurd (omega (arith, lt))
+
+    five : Names (told ranks (starting_of 5)) future → future.command ≡ 5
+    five (zero, lt, e) = ap (λ (l : Label). l.command) (sym e)
+    five (suc zero, lt, e) = ap (λ (l : Label). l.command) (sym e)
+    five (suc (suc zero), lt, e) = ap (λ (l : Label). l.command) (sym e)
+    five (suc (suc (suc k)), lt, e) = absurd (omega (arith, lt))
+
 pub starts_have_a_due_once : (ranks command : ℕ) (future : Label) → IsCommand kinds command → Names (told ranks (starting_of command)) future → IsDueOnce future (told ranks (starting_of command))
-starts_have_a_due_once ranks command future is = by_command (λ command. Names (told ranks (starting_of command)) future → IsDueOnce future (told ranks (starting_of command))) one two three command is
+starts_have_a_due_once ranks command future is = by_command (λ command. Names (told ranks (starting_of command)) future → IsDueOnce future (told ranks (starting_of command))) one two three four five command is
   where
     one : Names (told ranks (starting_of 1)) future → IsDueOnce future (told ranks (starting_of 1))
     one (zero, lt, e) = subst (λ l. IsDueOnce l (told ranks (starting_of 1))) e refl
@@ -97,8 +113,17 @@ starts_have_a_due_once ranks command future is = by_command (λ command. Names (
     three (suc (suc (suc (suc zero))), lt, e) = subst (λ l. IsDueOnce l (told ranks (starting_of 3))) e refl
     three (suc (suc (suc (suc (suc k)))), lt, e) = absurd (omega (arith, lt))
 
+    four : Names (told ranks (starting_of 4)) future → IsDueOnce future (told ranks (starting_of 4))
+    four (k, lt, e) = absurd (omega (arith, lt))
+
+    five : Names (told ranks (starting_of 5)) future → IsDueOnce future (told ranks (starting_of 5))
+    five (zero, lt, e) = subst (λ l. IsDueOnce l (told ranks (starting_of 5))) e refl
+    five (suc zero, lt, e) = subst (λ l. IsDueOnce l (told ranks (starting_of 5))) e refl
+    five (suc (suc zero), lt, e) = subst (λ l. IsDueOnce l (told ranks (starting_of 5))) e refl
+    five (suc (suc (suc k)), lt, e) = absurd (omega (arith, lt))
+
 pub starts_need_others_once : (ranks command : ℕ) (future : Label) → IsCommand kinds command → Names (told ranks (starting_of command)) future → result_of command ≢ Some future → IsNeededOnce future (told ranks (starting_of command))
-starts_need_others_once ranks command future is = by_command (λ command. Names (told ranks (starting_of command)) future → result_of command ≢ Some future → IsNeededOnce future (told ranks (starting_of command))) one two three command is
+starts_need_others_once ranks command future is = by_command (λ command. Names (told ranks (starting_of command)) future → result_of command ≢ Some future → IsNeededOnce future (told ranks (starting_of command))) one two three four five command is
   where
     one : Names (told ranks (starting_of 1)) future → Some first_result ≢ Some future → IsNeededOnce future (told ranks (starting_of 1))
     one (zero, lt, e) other = absurd (other (ap Some e))
@@ -115,8 +140,17 @@ starts_need_others_once ranks command future is = by_command (λ command. Names 
     three (suc (suc (suc (suc zero))), lt, e) other = subst (λ l. IsNeededOnce l (told ranks (starting_of 3))) e refl
     three (suc (suc (suc (suc (suc k)))), lt, e) other = absurd (omega (arith, lt))
 
+    four : Names (told ranks (starting_of 4)) future → None ≢ Some future → IsNeededOnce future (told ranks (starting_of 4))
+    four (k, lt, e) other = absurd (omega (arith, lt))
+
+    five : Names (told ranks (starting_of 5)) future → Some guess_result ≢ Some future → IsNeededOnce future (told ranks (starting_of 5))
+    five (zero, lt, e) other = subst (λ l. IsNeededOnce l (told ranks (starting_of 5))) e refl
+    five (suc zero, lt, e) other = absurd (other (ap Some e))
+    five (suc (suc zero), lt, e) other = subst (λ l. IsNeededOnce l (told ranks (starting_of 5))) e refl
+    five (suc (suc (suc k)), lt, e) other = absurd (omega (arith, lt))
+
 pub starts_never_need_the_result : (ranks command : ℕ) → IsCommand kinds command → IfSome (result_of command) (λ future. IsNeededNever future (told ranks (starting_of command)))
-starts_never_need_the_result ranks = by_command (λ command. IfSome (result_of command) (λ future. IsNeededNever future (told ranks (starting_of command)))) refl tt refl
+starts_never_need_the_result ranks = by_command (λ command. IfSome (result_of command) (λ future. IsNeededNever future (told ranks (starting_of command)))) refl tt refl tt refl
 
 pub few_commands : length kinds < 2 ^ 32 - 1
 few_commands = omega arith
@@ -136,7 +170,7 @@ rank_below ranks is (Some rank) = below (nat_lt rank ranks) refl
 -- the due and the rank of a unit, by its label
 
 due_at : Label → Option Label
-due_at l = if l.part == 0 then Some l else if l.part == 2 then None else if l.command == 1 then Some first_result else Some last_result
+due_at l = if l.part == 0 then Some l else if l.command == 5 then Some guess_result else if l.part == 2 then None else if l.command == 1 then Some first_result else Some last_result
 
 rule_at : Label → Option ℕ
 rule_at l = if l.place == 1 then Some 0 else if l.place == 2 then Some 1 else if l.command == 1 then Some 2 else Some 1
@@ -151,6 +185,9 @@ due_by_label Clear = refl
 due_by_label Read = refl
 due_by_label Count = refl
 due_by_label Total = refl
+due_by_label (Guessed Guess) = refl
+due_by_label (Guessed Early) = refl
+due_by_label (Guessed Late) = refl
 
 rule_by_label : (unit : Unit) → home_rule_of unit ≡ rule_at (label_of unit)
 unfolding rule_at
@@ -162,6 +199,9 @@ rule_by_label Clear = refl
 rule_by_label Read = refl
 rule_by_label Count = refl
 rule_by_label Total = refl
+rule_by_label (Guessed Guess) = refl
+rule_by_label (Guessed Early) = refl
+rule_by_label (Guessed Late) = refl
 
 pub label_tells_due : (unit other : Unit) → label_of unit ≡ label_of other → due_of unit ≡ due_of other
 label_tells_due unit other e = due_by_label unit ∙ ap due_at e ∙ sym (due_by_label other)
@@ -181,6 +221,10 @@ needs_are_kept_at_home Count future ranks (k, lt, e) = absurd (omega (arith, lt)
 needs_are_kept_at_home Total future ranks (zero, lt, e) = subst (λ l. kept_at l ranks ≡ home_of Total ranks) e refl
 needs_are_kept_at_home Total future ranks (suc zero, lt, e) = subst (λ l. kept_at l ranks ≡ home_of Total ranks) e refl
 needs_are_kept_at_home Total future ranks (suc (suc k), lt, e) = absurd (omega (arith, lt))
+needs_are_kept_at_home (Guessed Guess) future ranks (k, lt, e) = absurd (omega (arith, lt))
+needs_are_kept_at_home (Guessed Early) future ranks (zero, lt, e) = subst (λ l. kept_at l ranks ≡ home_of (Guessed Early) ranks) e refl
+needs_are_kept_at_home (Guessed Early) future ranks (suc k, lt, e) = absurd (omega (arith, lt))
+needs_are_kept_at_home (Guessed Late) future ranks (k, lt, e) = absurd (omega (arith, lt))
 
 pub few_reads : (unit : Unit) → length (reads_of unit) ≤ 16
 few_reads Fill = omega arith
@@ -190,6 +234,7 @@ few_reads Clear = omega arith
 few_reads Read = omega arith
 few_reads Count = omega arith
 few_reads Total = omega arith
+few_reads (Guessed unit) = omega arith
 
 -- steps
 
@@ -201,6 +246,7 @@ few_effects Clear given = omega arith
 few_effects Read given = omega arith
 few_effects Count given = omega arith
 few_effects Total given = omega arith
+few_effects (Guessed unit) given = guess.few_effects unit given
 
 pub spawns_have_their_needs : (unit : Unit) (given : Given ℕ ℕ) → AllByRecursion (IsSpawnedWithNeeds {U = Unit} {V = ℕ} {C = ℕ} needs_of) (step_of unit given)
 spawns_have_their_needs Fill given = (refl, (refl, ((refl, filled _ _), tt)))
@@ -210,6 +256,7 @@ spawns_have_their_needs Clear given = (tt, tt)
 spawns_have_their_needs Read given = (tt, tt)
 spawns_have_their_needs Count given = (tt, tt)
 spawns_have_their_needs Total given = (tt, tt)
+spawns_have_their_needs (Guessed unit) given = guess.spawns_have_their_needs unit given
 
 pub spawns_with_needs_stay : (ranks : ℕ) (unit : Unit) (given : Given ℕ ℕ) → AllByRecursion (NeedingRunsAt (home_of unit ranks)) (told ranks (step_of unit given))
 spawns_with_needs_stay ranks Fill given = ((λ some. absurd (some refl)), ((λ some. absurd (some refl)), ((λ _. refl), tt)))
@@ -219,6 +266,7 @@ spawns_with_needs_stay ranks Clear given = (tt, tt)
 spawns_with_needs_stay ranks Read given = (tt, tt)
 spawns_with_needs_stay ranks Count given = (tt, tt)
 spawns_with_needs_stay ranks Total given = (tt, tt)
+spawns_with_needs_stay ranks (Guessed unit) given = guess.spawns_with_needs_stay ranks unit given
 
 pub due_is_seen_to_once : (ranks : ℕ) (unit : Unit) (given : Given ℕ ℕ) → IfSome (due_of unit) (λ due. IsSeenToOnce due (told ranks (step_of unit given)))
 due_is_seen_to_once ranks Fill given = refl
@@ -229,6 +277,7 @@ due_is_seen_to_once ranks Clear given = tt
 due_is_seen_to_once ranks Read given = refl
 due_is_seen_to_once ranks Count given = refl
 due_is_seen_to_once ranks Total given = refl
+due_is_seen_to_once ranks (Guessed unit) given = guess.due_is_seen_to_once ranks unit given
 
 pub due_is_needed_never : (ranks : ℕ) (unit : Unit) (given : Given ℕ ℕ) → IfSome (due_of unit) (λ due. IsNeededNever due (told ranks (step_of unit given)))
 due_is_needed_never ranks Fill given = refl
@@ -238,6 +287,7 @@ due_is_needed_never ranks Clear given = tt
 due_is_needed_never ranks Read given = refl
 due_is_needed_never ranks Count given = refl
 due_is_needed_never ranks Total given = refl
+due_is_needed_never ranks (Guessed unit) given = guess.due_is_needed_never ranks unit given
 
 pub only_the_due_is_given : (ranks : ℕ) (unit : Unit) (given : Given ℕ ℕ) → AllByRecursion (GivesOnly (due_of unit)) (told ranks (step_of unit given))
 only_the_due_is_given ranks Fill given = (tt, (tt, (tt, tt)))
@@ -247,6 +297,7 @@ only_the_due_is_given ranks Clear given = (tt, tt)
 only_the_due_is_given ranks Read given = (refl, tt)
 only_the_due_is_given ranks Count given = (refl, tt)
 only_the_due_is_given ranks Total given = (refl, tt)
+only_the_due_is_given ranks (Guessed unit) given = guess.only_the_due_is_given ranks unit given
 
 pub spawns_have_a_due_once : (ranks : ℕ) (unit : Unit) (given : Given ℕ ℕ) (future : Label) → Names (told ranks (step_of unit given)) future → due_of unit ≢ Some future → IsDueOnce future (told ranks (step_of unit given))
 spawns_have_a_due_once ranks Fill given future (zero, lt, e) other = subst (λ l. IsDueOnce l (told ranks (step_of Fill given))) e refl
@@ -261,6 +312,7 @@ spawns_have_a_due_once ranks Clear given future (k, lt, e) other = absurd (omega
 spawns_have_a_due_once ranks Read given future (k, lt, e) other = absurd (omega (arith, lt))
 spawns_have_a_due_once ranks Count given future (k, lt, e) other = absurd (omega (arith, lt))
 spawns_have_a_due_once ranks Total given future (k, lt, e) other = absurd (omega (arith, lt))
+spawns_have_a_due_once ranks (Guessed unit) given future names other = absurd (other (guess.names_the_due ranks unit given future names))
 
 pub spawns_need_others_once : (ranks : ℕ) (unit : Unit) (given : Given ℕ ℕ) (future : Label) → Names (told ranks (step_of unit given)) future → due_of unit ≢ Some future → IsNeededOnce future (told ranks (step_of unit given))
 spawns_need_others_once ranks Fill given future (zero, lt, e) other = subst (λ l. IsNeededOnce l (told ranks (step_of Fill given))) e refl
@@ -275,6 +327,7 @@ spawns_need_others_once ranks Clear given future (k, lt, e) other = absurd (omeg
 spawns_need_others_once ranks Read given future (k, lt, e) other = absurd (omega (arith, lt))
 spawns_need_others_once ranks Count given future (k, lt, e) other = absurd (omega (arith, lt))
 spawns_need_others_once ranks Total given future (k, lt, e) other = absurd (omega (arith, lt))
+spawns_need_others_once ranks (Guessed unit) given future names other = absurd (other (guess.names_the_due ranks unit given future names))
 
 -- entries
 
@@ -289,6 +342,7 @@ writes_are_at_home ranks Clear given entry (suc k, lt, e) = absurd (omega (arith
 writes_are_at_home ranks Read given entry (k, lt, e) = absurd (omega (arith, lt))
 writes_are_at_home ranks Count given entry (k, lt, e) = absurd (omega (arith, lt))
 writes_are_at_home ranks Total given entry (k, lt, e) = absurd (omega (arith, lt))
+writes_are_at_home ranks (Guessed unit) given entry touches = let t = guess.touches_its_entry ranks unit given entry touches in ap (entry_home_of ranks) t.0 ∙ sym t.1
 
 pub entry_has_one_home : (ranks : ℕ) (unit other : Unit) (given more : Given ℕ ℕ) (entry : CellName) → Touches (told ranks (step_of unit given)) entry → Touches (told ranks (step_of other more)) entry → home_of unit ranks ≡ home_of other ranks
 entry_has_one_home ranks unit other given more entry touches again = sym (writes_are_at_home ranks unit given entry touches) ∙ writes_are_at_home ranks other more entry again
@@ -302,6 +356,7 @@ reads_are_at_home ranks Read entry (zero, lt, e) = subst (λ n. entry_home_of ra
 reads_are_at_home ranks Read entry (suc k, lt, e) = absurd (omega (arith, lt))
 reads_are_at_home ranks Count entry (k, lt, e) = absurd (omega (arith, lt))
 reads_are_at_home ranks Total entry (k, lt, e) = absurd (omega (arith, lt))
+reads_are_at_home ranks (Guessed unit) entry (k, lt, e) = absurd (omega (arith, lt))
 
 -- what is right
 
@@ -340,51 +395,9 @@ step_is_right ranks Clear given is right = (tt, tt)
 step_is_right ranks Read given is right = (ap Some (sym (read_is_right given.cells right.cells)), tt)
 step_is_right ranks Count given is right = (ap Some (sym (count_is_right (home_of Count ranks) given.size right.size)), tt)
 step_is_right ranks Total given is right = (ap Some (sym (total_is_right given.values right.values)), tt)
+step_is_right ranks (Guessed unit) given is right = guess.step_is_right unit given
 
 -- what the facts tell
-
-pub steps_are_told : (ranks : ℕ) (unit : Unit) (given : Given ℕ ℕ) → IsUnit unit → MayDo ranks (label_of unit) (told ranks (step_of unit given))
-steps_are_told ranks Fill given is = (Fill, is, refl, refl)
-steps_are_told ranks (Leaf right value) given is = (Leaf right value, is, refl, refl)
-steps_are_told ranks Sum given is = (Sum, is, refl, refl)
-steps_are_told ranks Clear given is = (Clear, is, refl, refl)
-steps_are_told ranks Read given is = (Read, is, refl, refl)
-steps_are_told ranks Count given is = (Count, is, refl, refl)
-steps_are_told ranks Total given is = (Total, is, refl, refl)
-
--- inputs that are right for a unit
-abbrev right_inputs : ℕ → Unit → Given ℕ ℕ
-right_inputs ranks Fill = record { values = []; cells = []; size = 0 }
-right_inputs ranks (Leaf right value) = record { values = []; cells = []; size = 0 }
-right_inputs ranks Sum = record { values = leaf_value false ∷ leaf_value true ∷ []; cells = []; size = 0 }
-right_inputs ranks Clear = record { values = []; cells = []; size = 0 }
-right_inputs ranks Read = record { values = []; cells = leaf_value false ∷ []; size = 0 }
-right_inputs ranks Count = record { values = []; cells = []; size = if home_of Count ranks == rank_within ranks (leaf_rank false) then 1 else 0 }
-right_inputs ranks Total = record { values = 5 ∷ 1 ∷ []; cells = []; size = 0 }
-
-pub allowed_is_a_step : (ranks : ℕ) (label : Label) (allowed : List Outline) → MayDo ranks label allowed
-    → (unit : Unit) × (given : Given ℕ ℕ) × IsUnit unit × (label_of unit ≡ label)
-    × AreRightInputs IsRightValue IsRightCell (IsRightSize ranks) (needs_of unit) (reads_of unit) (counts_of unit) (home_of unit ranks) given
-    × (allowed ≡ told ranks (step_of unit given))
-allowed_is_a_step ranks label allowed (unit, is, named, lists) = (unit, right_inputs ranks unit, is, named, is_right unit, lists ∙ same unit)
-  where
-    is_right : (unit : Unit) → AreRightInputs IsRightValue IsRightCell (IsRightSize ranks) (needs_of unit) (reads_of unit) (counts_of unit) (home_of unit ranks) (right_inputs ranks unit)
-    is_right Fill = record { values = tt; cells = tt; size = refl }
-    is_right (Leaf right value) = record { values = tt; cells = tt; size = refl }
-    is_right Sum = record { values = (refl, (refl, tt)); cells = tt; size = refl }
-    is_right Clear = record { values = tt; cells = tt; size = refl }
-    is_right Read = record { values = tt; cells = (refl, tt); size = refl }
-    is_right Count = record { values = tt; cells = tt; size = refl }
-    is_right Total = record { values = (refl, (refl, tt)); cells = tt; size = refl }
-
-    same : (unit : Unit) → told ranks (step_of unit (record { values = []; cells = []; size = 0 })) ≡ told ranks (step_of unit (right_inputs ranks unit))
-    same Fill = refl
-    same (Leaf right value) = refl
-    same Sum = refl
-    same Clear = refl
-    same Read = refl
-    same Count = refl
-    same Total = refl
 
 pub reads_are_told : (unit : Unit) (entry : CellName) → IsUnit unit → Contains (reads_of unit) entry → MayRead (label_of unit) entry
 reads_are_told unit entry is reads = (unit, is, refl, reads)
@@ -397,3 +410,4 @@ counts_are_told Clear is = tt
 counts_are_told Read is = tt
 counts_are_told Count is = (Count, is, refl, refl)
 counts_are_told Total is = tt
+counts_are_told (Guessed unit) is = tt

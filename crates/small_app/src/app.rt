@@ -7,6 +7,7 @@ ghost use Rattle.small_app.specs.declared.unit.Unit.TheVariants.{Leaf};
 ghost use Rattle.small_app.specs.Small as small;
 ghost use Rattle.small_app.specs.SmallLaws as laws;
 
+use crate::guess::{GUESS_FUTURE, GUESS_RESULT, GuessUnit};
 use crate::unit::Unit;
 use app_core::{
     App, CellName, CommandKind, Effect, Effects, Facts, Inputs, Label, Needs, OutOfMemory,
@@ -203,9 +204,9 @@ impl App for SmallApp {
 
     ghost starts_are_told = { λ _ _ _. refl };
 
-    ghost steps_are_told = { λ app unit given is _. laws.steps_are_told app.ranks unit given is };
+    ghost steps_are_told = { λ _ unit given is right. (unit, given, is, refl, right, refl) };
 
-    ghost allowed_is_a_step = { λ app label allowed may. laws.allowed_is_a_step app.ranks label allowed may };
+    ghost allowed_is_a_step = { λ _ _ _ may. may };
 
     ghost futures_are_told = { λ _ _. refl };
 
@@ -218,11 +219,11 @@ impl App for SmallApp {
     ghost writes_are_at_home = { λ app unit given entry _ _ touches. laws.writes_are_at_home app.ranks unit given entry touches };
 
     fn commands(&self) -> u32 {
-        3
+        5
     }
 
     fn kind(&self, command: u32) -> CommandKind {
-        if command == 2 {
+        if command == 2 || command == 4 {
             CommandKind::Fence
         } else {
             CommandKind::Work
@@ -242,6 +243,9 @@ impl App for SmallApp {
             effects.push(Effect::Spawn(Unit::Read))?;
             effects.push(Effect::Spawn(Unit::Count))?;
             effects.push(needing(Unit::Total, READ_FUTURE, COUNT_FUTURE))?;
+        } else if command == 5 {
+            effects.push(Effect::Spawn(Unit::Guessed(GuessUnit::Guess)))?;
+            effects.push(needing_one(Unit::Guessed(GuessUnit::Early), GUESS_FUTURE))?;
         }
         Ok(effects)
     }
@@ -250,6 +254,7 @@ impl App for SmallApp {
         match command {
             1 => Some(FIRST_RESULT),
             3 => Some(LAST_RESULT),
+            5 => Some(GUESS_RESULT),
             _ => None,
         }
     }
@@ -275,6 +280,7 @@ impl App for SmallApp {
                 part: 1,
                 place: 1,
             },
+            Unit::Guessed(unit) => unit.label(),
         }
     }
 
@@ -286,6 +292,7 @@ impl App for SmallApp {
             Unit::Read => Some(READ_FUTURE),
             Unit::Count => Some(COUNT_FUTURE),
             Unit::Total => Some(LAST_RESULT),
+            Unit::Guessed(unit) => Some(unit.due()),
         }
     }
 
@@ -295,6 +302,7 @@ impl App for SmallApp {
             Unit::Leaf { right, value: _ } => leaf_rank(right),
             Unit::Clear => leaf_rank(true),
             Unit::Read | Unit::Count => leaf_rank(false),
+            Unit::Guessed(unit) => unit.rank(),
         };
         rank_within(ranks, Some(rank))
     }
@@ -362,6 +370,7 @@ impl App for SmallApp {
                 let total = tens.wrapping_add(inputs.values()[1]);
                 effects.push(Effect::Give(LAST_RESULT, total))?;
             }
+            Unit::Guessed(unit) => unit.step(inputs.values(), &mut effects)?,
         }
         Ok(effects)
     }
@@ -392,6 +401,16 @@ fn needing(unit: Unit, first: Label, second: Label) -> Effect<Unit, u64, u32>
     ensures { result ≡ Waiting unit (first ∷ second ∷ []) }
 {
     match Needs::of(&[first, second]) {
+        Some(needs) => Effect::SpawnNeeding(unit, needs),
+        None => Effect::Spawn(unit),
+    }
+}
+
+// A spawn of a unit that needs this future.
+fn needing_one(unit: Unit, future: Label) -> Effect<Unit, u64, u32>
+    ensures { result ≡ Waiting unit (future ∷ []) }
+{
+    match Needs::of(&[future]) {
         Some(needs) => Effect::SpawnNeeding(unit, needs),
         None => Effect::Spawn(unit),
     }

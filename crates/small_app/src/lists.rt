@@ -1,5 +1,5 @@
 //! The application on lists of events.
-ghost use Rattle.std.specs.Prelude.{◌≡◌, [], ◌∷◌, ⊤};
+ghost use Rattle.std.specs.Prelude.{◌≡◌, [], ◌∷◌};
 ghost use Rattle.small_app.specs.SmallUnits as units;
 ghost use Rattle.small_app.specs.SmallComes as comes;
 ghost use Rattle.small_app.specs.SmallHeld as laws;
@@ -14,7 +14,7 @@ impl ListLaws for SmallApp {
 
     ghost total_of = { λ app fence. units.total_of app.ranks fence };
 
-    ghost is_sound = { λ _ _. ⊤ };
+    ghost is_sound = { λ _ command. units.IsSound command };
 
     ghost spawns_apart = { λ app plans log workers run. laws.spawns_apart app.ranks plans log workers run };
 
@@ -26,14 +26,14 @@ impl ListLaws for SmallApp {
 
     ghost erases_put = { λ app plans log workers run. laws.erased_was_put app.ranks plans log workers run };
 
-    ghost bins_hold = { λ app plans log before workers x r version command run has writes _ early.
-        laws.bins_hold app.ranks plans log before workers x r version command run has writes early };
+    ghost bins_hold = { λ app plans log before workers x r version command run has writes sound early.
+        laws.bins_hold app.ranks plans log before workers x r version command run has writes sound early };
 
-    ghost sizes_are_right = { λ app rank version command _ writes _. laws.sizes_are_right app.ranks rank version command writes };
+    ghost sizes_are_right = { λ app rank version command _ writes sound. laws.sizes_are_right app.ranks rank version command writes sound };
 
     ghost other_sizes_are_right = { λ app rank version number _ none. laws.other_sizes_are_right app.ranks rank version number none };
 
-    ghost totals_are_told = { λ app plans log before workers x r run has _. laws.totals_are_told app.ranks plans log before workers x r run has };
+    ghost totals_are_told = { λ app plans log before workers x r run has sound. laws.totals_are_told app.ranks plans log before workers x r run has sound };
 
     ghost reads_are_held = { λ app label entry _ reads _ _. laws.reads_are_held app.ranks label entry reads };
 
@@ -56,7 +56,8 @@ impl ListLaws for SmallApp {
 
 /// The numbers of messages and tasks, by hand. With four ranks the first command has five tasks and sends five messages:
 /// the two leaves, what they give, and the unit that erases the right entry. The second has three tasks and sends five
-/// more: the units that read and count, what they give, and the last result. With one rank nothing is sent.
+/// more: the units that read and count, what they give, and the last result. With one rank nothing is sent. Nothing is
+/// said of the last one.
 pub fn totals_are_those_by_hand()
     ensures first_of_four { units.total_of 4 1 ≡ (5, 5) }
     ensures both_of_four { units.total_of 4 2 ≡ (10, 8) }

@@ -27,6 +27,10 @@ const fn entry(place: u64) -> CellName {
     CellName { version: 1, place }
 }
 
+const fn guessed(unit: GuessUnit) -> Unit {
+    Unit::Guessed(unit)
+}
+
 // What is told of a unit.
 fn told<A: App>(
     app: &A,
@@ -66,13 +70,16 @@ fn step<A: App>(
 }
 
 #[test]
-fn commands_are_work_fence_work(rt: HostRuntime) {
+fn commands_are_three_of_work_with_fences_between(rt: HostRuntime) {
     let app = app(4);
-    assert_eq!(rt; App::commands(&app), 3);
+    assert_eq!(rt; App::commands(&app), 5);
     let first = (CommandKind::Work, Some(future(1, 1)));
-    let last = (CommandKind::Work, Some(future(3, 1)));
-    assert!(rt; command(&app, 1) == first && command(&app, 3) == last);
+    let second = (CommandKind::Work, Some(future(3, 1)));
+    let last = (CommandKind::Work, Some(future(5, 1)));
+    assert!(rt; command(&app, 1) == first && command(&app, 3) == second);
+    assert!(rt; command(&app, 5) == last);
     assert!(rt; command(&app, 2) == (CommandKind::Fence, None));
+    assert!(rt; command(&app, 4) == (CommandKind::Fence, None));
     assert!(rt;
         app.dropped(2, 0) == Some(1) && app.dropped(2, 1).is_none() && app.dropped(1, 0).is_none()
     );
@@ -94,6 +101,27 @@ fn units_have_their_names_and_ranks(rt: HostRuntime) {
         (Unit::Read, 0, 2, Some(future(3, 2)), [0, 1, 1]),
         (Unit::Count, 0, 3, Some(future(3, 3)), [0, 1, 1]),
         (Unit::Total, 1, 1, Some(future(3, 1)), [0, 0, 0]),
+        (
+            guessed(GuessUnit::Guess),
+            0,
+            2,
+            Some(future(5, 2)),
+            [0, 1, 1],
+        ),
+        (
+            guessed(GuessUnit::Early),
+            1,
+            1,
+            Some(future(5, 1)),
+            [0, 0, 0],
+        ),
+        (
+            guessed(GuessUnit::Late),
+            2,
+            1,
+            Some(future(5, 1)),
+            [0, 0, 0],
+        ),
     ];
     for (unit, part, place, due, homes) in cases {
         let reads = if unit == Unit::Read {
@@ -147,6 +175,13 @@ fn commands_start_their_units(rt: HostRuntime) {
     assert!(rt; are(app.starts(alloc, 1, 4), &[Effect::Spawn(Unit::Fill)]));
     assert!(rt; are(app.starts(alloc, 2, 4), &[]));
     assert!(rt; are(app.starts(alloc, 3, 1), &last));
+    assert!(rt; are(app.starts(alloc, 4, 1), &[]));
+    let needs = Needs::of(&[future(5, 2)]).unwrap_or(Needs::none());
+    let guessing = [
+        Effect::Spawn(guessed(GuessUnit::Guess)),
+        Effect::SpawnNeeding(guessed(GuessUnit::Early), needs),
+    ];
+    assert!(rt; are(app.starts(alloc, 5, 2), &guessing));
 }
 
 #[test]
@@ -211,6 +246,31 @@ fn the_last_command_gives_fifty_one(rt: HostRuntime) -> Result<(), Fail> {
         )
     );
     assert_eq!(rt; app.copy_value(alloc, &51), Ok(51));
+    Ok(())
+}
+
+#[test]
+fn the_early_unit_puts_the_entry_or_has_the_late_one_put_it(rt: HostRuntime) -> Result<(), Fail> {
+    let app = app(4);
+    let alloc = rt.alloc();
+    let none = || Inputs::new(Vec::new(alloc), Vec::new(alloc), 0);
+    let put = || {
+        let name = CellName {
+            version: 2,
+            place: 1,
+        };
+        [Effect::Put(name, 9), Effect::Give(future(5, 1), 9)]
+    };
+    let guess = [Effect::Give(future(5, 2), 1)];
+    assert!(rt; are(step(&app, alloc, guessed(GuessUnit::Guess), none()), &guess));
+    assert!(rt; are(step(&app, alloc, guessed(GuessUnit::Late), none()), &put()));
+    for (number, effects) in [
+        (0u64, put().as_slice()),
+        (1, &[Effect::Spawn(guessed(GuessUnit::Late))]),
+    ] {
+        let given = Inputs::new([number].to_vec(alloc)?, Vec::new(alloc), 0);
+        assert!(rt; are(step(&app, alloc, guessed(GuessUnit::Early), given), effects));
+    }
     Ok(())
 }
 

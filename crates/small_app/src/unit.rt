@@ -1,5 +1,7 @@
 //! The units of the small application.
 
+use crate::guess::GuessUnit;
+
 /// A unit of the small application.
 #[derive(Clone, Copy, Debug, PartialEq, Eq)]
 pub enum Unit {
@@ -23,4 +25,7 @@ pub enum Unit {
 
     /// Gives ten times what was read, plus what was counted.
     Total,
+
+    /// A unit of the last work command.
+    Guessed(GuessUnit),
 }
