@@ -1,6 +1,6 @@
 //! What holds of outlines, and of the steps and starts of any application: each function's contract is a law, and
 //! its body is empty.
-ghost use Rattle.std.specs.Prelude.{◌≡◌, ℕ};
+ghost use Rattle.std.specs.Prelude.{◌≡◌, ◌≤◌, ℕ, None};
 ghost use Rattle.app_core.specs.Given.{Given};
 ghost use Rattle.app_core.specs.Commands.{IsCommand, IsRankCount};
 ghost use Rattle.app_core.specs.Inputs.{Fits, AreRightInputs};
@@ -32,6 +32,21 @@ pub fn places_name_and_touch()
 /// A rule gives a rank below the number of ranks.
 pub fn rules_give_ranks()
     ensures { RuleGivesARank }
+{}
+
+/// The runtime has at least one rank and at most 16.
+pub fn ranks_are_one_to_sixteen()
+    ensures bounds { (ranks : ℕ) → IsRankCount ranks → (1 ≤ ranks) × (ranks ≤ 16) }
+    ensures least { IsRankCount 1 }
+    ensures most { IsRankCount 16 }
+{}
+
+/// Inputs that are right for a unit that counts no version have the size 0.
+pub fn sizes_are_zero_where_nothing_is_counted<A: App>()
+    ensures { (app : A) (unit : A.Unit) (given : Given A.Value A.Cell) → A.counts_of app unit ≡ None
+        → AreRightInputs (A.right_value app) (A.right_cell app) (A.right_size app)
+        (A.needs_of app unit) (A.reads_of app unit) (A.counts_of app unit) (A.home_of app unit (A.ranks_of app)) given
+        → given.size ≡ 0 }
 {}
 
 /// Inputs that are right for a unit fit it: they have a value for each need, and a cell for each entry that it reads.

@@ -2,7 +2,10 @@
 //! is a law, and its body is empty.
 //!
 //! An application meets the trait [`ListLaws`](crate::ListLaws) by these, from facts on its plain data alone.
-ghost use Rattle.event_laws.specs.Follows.{program_from, IsRun};
+ghost use Rattle.std.specs.Prelude.{◌≡◌, ◌<◌, true, ℕ};
+ghost use Rattle.app_core.specs.declared.label.CellName.{CellName as Entry};
+ghost use Rattle.event_lists.specs.Legal.{IsLane};
+ghost use Rattle.event_laws.specs.Follows.{bin_of, program_from, IsRun};
 ghost use Rattle.event_laws.specs.Laws.{SpawnsAreApart, TasksAreApart, BringersAreOne, EntriesAreApart, ErasesComeLater, PutsFindNothing, ErasesFindAnEntry};
 ghost use Rattle.event_laws.specs.Runs.{program, may_do, plans, whole_run, started_twice, effect_left_out, given_too_early, put_elsewhere, ran_too_early, IsRefused};
 
@@ -52,4 +55,11 @@ pub fn an_entry_to_put_is_absent()
 /// An entry that a begun task is yet to erase is in its bin.
 pub fn an_entry_to_erase_is_present()
     ensures { ErasesFindAnEntry }
+{}
+
+/// The bin of an entry is one of the 16 of its rank, and its lane is there where the rank is.
+pub fn a_rank_has_sixteen_bins()
+    ensures number { (rank : ℕ) (entry : Entry) → (bin_of rank entry).number < 16 }
+    ensures lane { (ranks workers rank : ℕ) (entry : Entry) → rank < ranks → IsLane ranks workers (bin_of rank entry) }
+    ensures is_bin { (rank : ℕ) (entry : Entry) → ((bin_of rank entry).rank ≡ rank) × ((bin_of rank entry).bin ≡ true) }
 {}

@@ -7,6 +7,7 @@
 //! come up before the fence. The cut of an application into units with labels, and its laws, are this project's own.
 #![tactic(auto)]
 
+pub mod examples;
 pub mod laws;
 mod list_laws;
 pub mod receipts;
