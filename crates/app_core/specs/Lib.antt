@@ -5,6 +5,7 @@ pub mod Commands
 pub mod Homes
 pub mod Inputs
 pub mod Effects
+pub mod StoredEffects
 pub mod Outlines
 pub mod Spawns
 pub mod Laws

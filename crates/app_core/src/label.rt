@@ -4,7 +4,7 @@
 ///
 /// `command` is the number of the command that it belongs to, from 1. `part` and `place` are the application's
 /// own: `part` says what it is of the command, and `place` which of them.
-#[derive(Clone, Copy, Debug, PartialEq, Eq, PartialOrd, Ord, Hash)]
+#[derive(Clone, Copy, Debug, PartialEq, Eq, PartialOrd, Ord, Hash, Default)]
 pub struct Label {
     pub command: u32,
     pub part: u8,

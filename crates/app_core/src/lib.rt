@@ -11,6 +11,10 @@
 
 mod app;
 mod effect;
+mod effect_queue;
+mod effect_with;
+mod effects;
+mod examples;
 mod facts;
 mod gate;
 mod inputs;
@@ -21,7 +25,10 @@ mod needs;
 mod outline;
 
 pub use app::App;
-pub use effect::{Effect, Effects, OutOfMemory};
+pub use effect::{Effect, OutOfMemory};
+pub use effect_queue::EffectQueue;
+pub use effect_with::{EffectWith, LentEffect};
+pub use effects::Effects;
 pub use facts::Facts;
 pub use gate::{Gate, NoGate};
 pub use inputs::Inputs;

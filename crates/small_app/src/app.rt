@@ -1,5 +1,5 @@
 //! The application itself.
-ghost use Rattle.std.specs.Prelude.{◌≡◌, ◌≢◌, [], ◌∷◌, Some, length, IfOk, refl};
+ghost use Rattle.std.specs.Prelude.{◌≡◌, ◌≢◌, [], ◌∷◌, ◌++◌, Some, length, IfOk, OnOk, OnErr, refl};
 ghost use Rattle.app_core.specs.Commands.{IsRankCount};
 ghost use Rattle.app_core.specs.Homes.{rank_within as ranks_within};
 ghost use Rattle.app_core.specs.declared.Effect.TheVariants.{Spawn as Spawned, SpawnNeeding as Waiting};
@@ -10,7 +10,7 @@ ghost use Rattle.small_app.specs.SmallLaws as laws;
 use crate::guess::{GUESS_FUTURE, GUESS_RESULT, GuessUnit};
 use crate::unit::Unit;
 use app_core::{
-    App, CellName, CommandKind, Effect, Effects, Facts, Inputs, Label, Needs, OutOfMemory,
+    App, CellName, CommandKind, Effect, Effects, Facts, Inputs, Label, OutOfMemory,
 };
 use std::alloc::Global;
 
@@ -242,10 +242,10 @@ impl App for SmallApp {
         } else if command == 3 {
             effects.push(Effect::Spawn(Unit::Read))?;
             effects.push(Effect::Spawn(Unit::Count))?;
-            effects.push(needing(Unit::Total, READ_FUTURE, COUNT_FUTURE))?;
+            push_waiting(&mut effects, Unit::Total, READ_FUTURE, COUNT_FUTURE)?;
         } else if command == 5 {
             effects.push(Effect::Spawn(Unit::Guessed(GuessUnit::Guess)))?;
-            effects.push(needing_one(Unit::Guessed(GuessUnit::Early), GUESS_FUTURE))?;
+            effects.push_needing(Unit::Guessed(GuessUnit::Early), &[GUESS_FUTURE])?;
         }
         Ok(effects)
     }
@@ -348,7 +348,12 @@ impl App for SmallApp {
             Unit::Fill => {
                 effects.push(leaf(false, 5))?;
                 effects.push(leaf(true, 7))?;
-                effects.push(needing(Unit::Sum, leaf_future(false), leaf_future(true)))?;
+                push_waiting(
+                    &mut effects,
+                    Unit::Sum,
+                    leaf_future(false),
+                    leaf_future(true),
+                )?;
             }
             Unit::Leaf { right, value } => {
                 effects.push(Effect::Put(leaf_entry(right), value))?;
@@ -395,23 +400,16 @@ fn leaf(right: bool, value: u32) -> Effect<Unit, u64, u32>
     Effect::Spawn(Unit::Leaf { right, value })
 }
 
-// A spawn of a unit that needs these two futures.
-fn needing(unit: Unit, first: Label, second: Label) -> Effect<Unit, u64, u32>
+// Adds a spawn of a unit that needs these two futures last.
+fn push_waiting(
+    effects: &mut Effects<Unit, u64, u32>,
+    unit: Unit,
+    first: Label,
+    second: Label,
+) -> Result<(), OutOfMemory>
     requires { first ≢ second }
-    ensures { result ≡ Waiting unit (first ∷ second ∷ []) }
+    ensures ok { OnOk result (effects.new ≡ effects.old ++ Waiting unit (first ∷ second ∷ []) ∷ []) }
+    ensures err { OnErr result (effects.new ≡ effects.old) }
 {
-    match Needs::of(&[first, second]) {
-        Some(needs) => Effect::SpawnNeeding(unit, needs),
-        None => Effect::Spawn(unit),
-    }
-}
-
-// A spawn of a unit that needs this future.
-fn needing_one(unit: Unit, future: Label) -> Effect<Unit, u64, u32>
-    ensures { result ≡ Waiting unit (future ∷ []) }
-{
-    match Needs::of(&[future]) {
-        Some(needs) => Effect::SpawnNeeding(unit, needs),
-        None => Effect::Spawn(unit),
-    }
+    effects.push_needing(unit, &[first, second])
 }

@@ -5,7 +5,7 @@ ghost use Rattle.app_core.specs.Effects.{IsRightEffect};
 ghost use Rattle.app_core.specs.Inputs.{AreRightInputs};
 
 use crate::held::{Held, Table};
-use app_core::{App, Effect, Effects, Inputs, Label, Naming, OutOfMemory};
+use app_core::{App, EffectQueue, Effects, Inputs, Label, LentEffect, Naming, OutOfMemory};
 use std::alloc::Global;
 use std::marker::Brand;
 use std::sync::{Mutex, Wait};
@@ -18,14 +18,14 @@ pub fn give<A: App, J: Naming<A>, R: Wait>(
     rt: &R,
     app: &A,
     table: &Mutex<Table<A, J>>,
-    effects: &mut Effects<A::Unit, A::Value, A::Cell>,
+    effects: &mut EffectQueue<A::Unit, A::Value, A::Cell>,
 ) -> Result<(), OutOfMemory>
     requires named { J.app ≡ Some app.now }
     requires right { AllByRecursion (IsRightEffect (A.right_value app.now) (A.right_cell app.now) (A.is_unit app.now)) effects.old }
     ensures { OnOk result (effects.new ≡ []) }
 {
     while let Some(effect) = effects.take_first() {
-        if let Effect::Give(future, value) = effect {
+        if let LentEffect::Give(future, value) = effect {
             table.lock(rt).put(Held::new(future, value))?;
         }
     }
@@ -64,7 +64,8 @@ fn give_and_look<A: App, J: Naming<A> + Send + Sync, R: Threads + Wait + Sync>(
 {
     let shared: Mutex<Table<A, J>> = Mutex::new(Table::new(alloc));
     let table = &shared;
-    let work = &mut effects;
+    let mut queue = effects.queue();
+    let work = &mut queue;
     let (given, found) = join(
         rt,
         move || -> Result<(), OutOfMemory>

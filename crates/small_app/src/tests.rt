@@ -4,7 +4,7 @@ ghost use Rattle.app_core.specs.Commands.{IsCommand, IsRankCount};
 
 use super::*;
 use app_core::{
-    App, CellName, CommandKind, Effect, Effects, Inputs, Label, Needs, OutOfMemory, laws,
+    App, CellName, CommandKind, Effects, Inputs, Label, LentEffect, OutOfMemory, laws,
 };
 use std::alloc::Global;
 use std::test::Fail;
@@ -151,16 +151,19 @@ fn rank_three_keeps_the_last_result(rt: HostRuntime) {
 // Whether these are the effects.
 fn are(
     effects: Result<Effects<Unit, u64, u32>, OutOfMemory>,
-    expected: &[Effect<Unit, u64, u32>],
+    expected: &[LentEffect<Unit, u64, u32>],
 ) -> bool {
-    match effects {
-        Ok(effects) => effects.into_vec().as_slice() == expected,
-        Err(_) => false,
+    let Ok(mut effects) = effects else {
+        return false;
+    };
+    let mut queue = effects.queue();
+    for asked in expected {
+        match queue.take_first() {
+            Some(effect) if effect == *asked => {}
+            _ => return false,
+        }
     }
-}
-
-fn needing(unit: Unit, first: Label, second: Label) -> Effect<Unit, u64, u32> {
-    Effect::SpawnNeeding(unit, Needs::of(&[first, second]).unwrap_or(Needs::none()))
+    queue.is_empty()
 }
 
 #[test]
@@ -168,11 +171,11 @@ fn commands_start_their_units(rt: HostRuntime) {
     let app = app(4);
     let alloc = rt.alloc();
     let last = [
-        Effect::Spawn(Unit::Read),
-        Effect::Spawn(Unit::Count),
-        needing(Unit::Total, future(3, 2), future(3, 3)),
+        LentEffect::Spawn(Unit::Read),
+        LentEffect::Spawn(Unit::Count),
+        LentEffect::SpawnNeeding(Unit::Total, &[future(3, 2), future(3, 3)]),
     ];
-    assert!(rt; are(app.starts(alloc, 1, 4), &[Effect::Spawn(Unit::Fill)]));
+    assert!(rt; are(app.starts(alloc, 1, 4), &[LentEffect::Spawn(Unit::Fill)]));
     assert!(rt; are(app.starts(alloc, 2, 4), &[]));
     assert!(rt; are(app.starts(alloc, 3, 1), &last));
     assert!(rt; are(app.starts(alloc, 4, 1), &[]));
@@ -198,21 +201,21 @@ fn the_first_command_gives_twelve(rt: HostRuntime) -> Result<(), Fail> {
         value: 7,
     };
     let filled = [
-        Effect::Spawn(left),
-        Effect::Spawn(right),
-        needing(Unit::Sum, future(1, 2), future(1, 3)),
+        LentEffect::Spawn(left),
+        LentEffect::Spawn(right),
+        LentEffect::SpawnNeeding(Unit::Sum, &[future(1, 2), future(1, 3)]),
     ];
     assert!(rt; are(step(&app, alloc, Unit::Fill, none()), &filled));
-    let put = [Effect::Put(entry(3), 7), Effect::Give(future(1, 3), 7)];
+    let put = [LentEffect::Put(entry(3), 7), LentEffect::Give(future(1, 3), 7)];
     assert!(rt; are(step(&app, alloc, right, none()), &put));
     let values = [5u64, 7].to_vec(alloc)?;
     let given = Inputs::new(values, Vec::new(alloc), 0);
-    let summed = [Effect::Spawn(Unit::Clear), Effect::Give(future(1, 1), 12)];
+    let summed = [LentEffect::Spawn(Unit::Clear), LentEffect::Give(future(1, 1), 12)];
     assert!(rt; are(step(&app, alloc, Unit::Sum, given), &summed));
     assert!(rt;
         are(
             step(&app, alloc, Unit::Clear, none()),
-            &[Effect::Erase(entry(3))]
+            &[LentEffect::Erase(entry(3))]
         )
     );
     Ok(())
@@ -227,14 +230,14 @@ fn the_last_command_gives_fifty_one(rt: HostRuntime) -> Result<(), Fail> {
     assert!(rt;
         are(
             step(&app, alloc, Unit::Read, read),
-            &[Effect::Give(future(3, 2), 5)]
+            &[LentEffect::Give(future(3, 2), 5)]
         )
     );
     let counted = Inputs::new(Vec::new(alloc), Vec::new(alloc), 1);
     assert!(rt;
         are(
             step(&app, alloc, Unit::Count, counted),
-            &[Effect::Give(future(3, 3), 1)]
+            &[LentEffect::Give(future(3, 3), 1)]
         )
     );
     let values = [5u64, 1].to_vec(alloc)?;
@@ -242,7 +245,7 @@ fn the_last_command_gives_fifty_one(rt: HostRuntime) -> Result<(), Fail> {
     assert!(rt;
         are(
             step(&app, alloc, Unit::Total, given),
-            &[Effect::Give(future(3, 1), 51)]
+            &[LentEffect::Give(future(3, 1), 51)]
         )
     );
     assert_eq!(rt; app.copy_value(alloc, &51), Ok(51));
