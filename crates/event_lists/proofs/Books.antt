@@ -13,16 +13,16 @@ use Rattle.event_lists.specs.Legal.{Legal}
 use Rattle.event_lists.specs.Books.{by_main, empty_receipt, one_pass, two_passes, first_book, second_book, one_reading, third_book, IsIllegal}
 
 -- where there is one rank, what holds of it holds of each
-each_rank : (P : ℕ → Type 0) → P 0 → (q : ℕ) → q < 1 → P q
+pub each_rank : (P : ℕ → Type 0) → P 0 → (q : ℕ) → q < 1 → P q
 each_rank P h q b = subst P (let e : 0 ≡ q = omega arith in e) h
 
-complete_one : (f p : ℕ) (log : List Mark) (row : Row) → row_of f p (part (main_of 0) log) ≡ Some row → IsComplete 1 f p log
+pub complete_one : (f p : ℕ) (log : List Mark) (row : Row) → row_of f p (part (main_of 0) log) ≡ Some row → IsComplete 1 f p log
 complete_one f p log row i = each_rank (λ q. (r : Row) × (row_of f p (part (main_of q) log) ≡ Some r)) (row, i)
 
-ready_first : (f : ℕ) (log : List Mark) → IsReady 1 f 1 log
-ready_first f log d e = absurd (omega arith)
+pub ready_first : (ranks f : ℕ) (log : List Mark) → IsReady ranks f 1 log
+ready_first ranks f log d e = absurd (omega arith)
 
-ready_second : (f : ℕ) (log : List Mark) (row : Row) → row_of f 1 (part (main_of 0) log) ≡ Some row → IsReady 1 f 2 log
+pub ready_second : (f : ℕ) (log : List Mark) (row : Row) → row_of f 1 (part (main_of 0) log) ≡ Some row → IsReady 1 f 2 log
 ready_second f log row i d e = subst (λ (z : ℕ). IsComplete 1 f (suc z) log) (let j : 0 ≡ d = omega arith in j) (complete_one f 1 log row i)
 
 abbrev none : Row
@@ -33,7 +33,7 @@ legal_enter = (record { named = (omega arith, omega arith); counting = tt; dues 
 
 pub legal_reading : Legal 1 0 one_reading
 legal_reading = (
-  record { named = (omega arith, omega arith); counting = tt; dues = tt; fences = (refl, (refl, refl, refl), refl, (tt, ready_first 1 (by_main (Enter 1) ∷ []))); bins = refl },
+  record { named = (omega arith, omega arith); counting = tt; dues = tt; fences = (refl, (refl, refl, refl), refl, (tt, ready_first 1 1 (by_main (Enter 1) ∷ []))); bins = refl },
   legal_enter,
 )
 

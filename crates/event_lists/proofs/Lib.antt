@@ -21,3 +21,4 @@ pub mod Given
 pub mod Kept
 pub mod Books
 pub mod Runs
+pub mod RefusedRuns

@@ -13,3 +13,4 @@ pub mod OwnEvents
 pub mod LastingLaws
 pub mod Books
 pub mod Runs
+pub mod RefusedRuns

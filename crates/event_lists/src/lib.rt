@@ -14,6 +14,7 @@ mod lasting;
 mod laws;
 mod mark;
 mod receipt;
+mod refusals;
 
 pub use event::{Event, Parcel, TaskName};
 pub use future::{Bringer, Future};
@@ -32,3 +33,7 @@ pub use laws::{
 };
 pub use mark::{EffectName, Item, Mark};
 pub use receipt::{Receipt, Row, Rows};
+pub use refusals::{
+    lanes_are_judged, needs_are_judged, needs_without_dues_are_judged, opening_again_is_judged,
+    sends_are_judged, work_in_a_fence_is_judged,
+};
