@@ -1,3 +1,4 @@
 pub mod Func
 pub mod Node
+pub mod NodeExamples
 pub mod Combinations

@@ -7,6 +7,7 @@
 #![tactic(auto)]
 
 mod combine;
+mod examples;
 mod func;
 pub mod laws;
 mod mix;
