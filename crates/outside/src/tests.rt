@@ -27,6 +27,41 @@ impl io::Read for BrokenReader {
     }
 }
 
+/// A reader that gives as many bytes as there is room for, and counts its calls.
+#[derive(Drop)]
+struct CountedReader {
+    left: usize,
+    calls: usize,
+}
+
+impl io::Read for CountedReader {
+    fn read(&mut self, buf: &mut [u8]) -> io::Result<usize> {
+        self.calls = self.calls.saturating_add(1);
+        let count = buf.len().min(self.left);
+        self.left -= count;
+        Ok(count)
+    }
+}
+
+/// A writer that takes each piece whole, and counts its calls.
+#[derive(Drop)]
+struct CountedWriter {
+    taken: usize,
+    calls: usize,
+}
+
+impl io::Write for CountedWriter {
+    fn write(&mut self, buf: &[u8]) -> io::Result<usize> {
+        self.calls = self.calls.saturating_add(1);
+        self.taken = self.taken.saturating_add(buf.len());
+        Ok(buf.len())
+    }
+
+    fn flush(&mut self) -> io::Result<()> {
+        Ok(())
+    }
+}
+
 /// A source that never fails gives no read fault.
 fn read_sure(alloc: Global, source: &mut SureSource) -> Result<Vec<u8>, ReadAllError>
     ensures { ¬ IsErrOf result ReadAllError.ReadFault }
@@ -155,5 +190,24 @@ fn writes_what_a_writer_takes(rt: HostRuntime) -> Result<(), Fail> {
 
     // What a program prints to.
     write_all(&mut StdSink::new(io::writer(&rt)), b"")?;
+    Ok(())
+}
+
+// No clause says how many bytes a call of an adapter moves.
+#[test]
+fn moves_many_bytes_a_call(rt: HostRuntime) -> Result<(), Fail> {
+    let alloc = rt.alloc();
+    let mut reader = CountedReader {
+        left: 200_000,
+        calls: 0,
+    };
+    let bytes = read_all(alloc, &mut StdSource::new(&mut reader), 300_000)?;
+    assert_eq!(rt; bytes.len(), 200_000);
+    // Three pieces of 65,536 bytes, the rest, and the end.
+    assert_eq!(rt; reader.calls, 5);
+
+    let mut writer = CountedWriter { taken: 0, calls: 0 };
+    write_all(&mut StdSink::new(&mut writer), &bytes)?;
+    assert_eq!(rt; (writer.taken, writer.calls), (200_000, 1));
     Ok(())
 }
