@@ -23,6 +23,8 @@ use Rattle.job_lang.specs.Grammar.{name_at, function_at, function_of_form, heade
 use Rattle.job_words.specs.Lines.{Words, words, is_passed_over, line_of}
 use Rattle.job_words.specs.Names.{is_name}
 use Rattle.job_words.specs.Numbers.{number}
+use Rattle.job_lang.specs.declared.fault_kind.FaultKind.{FaultKind}
+use Rattle.job_lang.specs.declared.fault_kind.FaultKind.TheVariants.{ForeignByte, NoHeader, BeyondLimits, UnknownTree, WrongForm, FarFromFence}
 use Rattle.job_lang.specs.Reading.{checked, read, checked_command, command_of_words, command_of_line, depth_of_line, header_from, commands_from, job_with, job_behind, reading_of}
 use Rattle.job_words.proofs.WordLaws.{IsWord, AreWords, words-line_of, line_of-printable, line_of-allowed, lines-line, decimal-word, number-decimal, number-signed, signed-word, name-word}
 
@@ -258,7 +260,7 @@ command-reads depth Fence shallow names numbers = record {
 }
 
 -- an accepted command has no fault
-no_fault : (c : Command) (a b t f n : Bool) → a ≡ true → (b && (t && (f && n))) ≡ true → checked 5 (a && b) (checked 6 t (checked 7 f (checked 8 n (Ok c)))) ≡ Ok c
+no_fault : (c : Command) (a b t f n : Bool) → a ≡ true → (b && (t && (f && n))) ≡ true → checked BeyondLimits (a && b) (checked UnknownTree t (checked WrongForm f (checked FarFromFence n (Ok c)))) ≡ Ok c
 no_fault c true true true true true numbers rest = refl
 no_fault c true true true true false numbers rest = cc
 no_fault c true true true false n numbers rest = cc
@@ -275,9 +277,9 @@ words-all : (ws : Words) → AreWords ws → is_passed_over ws ≡ false → wor
 words-all [] are first = cc
 words-all (word ∷ rest) are first = words-line_of word rest are.0 are.1
 
-line-reads : (depth : ℕ) (before : List Command) (ws : Words) (r : Result Command ℕ) → AreWords ws → is_passed_over ws ≡ false → command_of_words depth before ws ≡ r → command_of_line depth before (line_of ws) ≡ r
+line-reads : (depth : ℕ) (before : List Command) (ws : Words) (r : Result Command FaultKind) → AreWords ws → is_passed_over ws ≡ false → command_of_words depth before ws ≡ r → command_of_line depth before (line_of ws) ≡ r
 line-reads depth before ws r are first is =
-    ap (λ b. checked 1 b (command_of_words depth before (words (line_of ws)))) (line_of-allowed ws are) ∙ ap (command_of_words depth before) (words-all ws are first) ∙ is
+    ap (λ b. checked ForeignByte b (command_of_words depth before (words (line_of ws)))) (line_of-allowed ws are) ∙ ap (command_of_words depth before) (words-all ws are first) ∙ is
 
 command-step : (depth : ℕ) (before : List Command) (number : ℕ) (line : List ℕ) (rest : List (List ℕ)) (c : Command) → is_passed_over (words line) ≡ false → command_of_line depth before line ≡ Ok c → commands_from depth before number (line ∷ rest) ≡ commands_from depth (before ++ c ∷ []) (number + 1) rest
 command-step depth before number line rest c first is = rw (first, is) refl
@@ -303,9 +305,9 @@ header-step number line rest depth first is = rw (first, is) refl
 
 depth-reads : (ws : Words) (depth : ℕ) → AreWords ws → is_passed_over ws ≡ false → header_of ws ≡ Some depth → depth_of_line (line_of ws) ≡ Ok depth
 depth-reads ws depth are first is =
-    ap (λ b. checked 1 b (read 2 (header_of (words (line_of ws))) (λ d. Ok d))) (line_of-allowed ws are)
-    ∙ ap (λ us. read 2 (header_of us) (λ d. Ok d)) (words-all ws are first)
-    ∙ ap (λ o. read 2 o (λ d. Ok d)) is
+    ap (λ b. checked ForeignByte b (read NoHeader (header_of (words (line_of ws))) (λ d. Ok d))) (line_of-allowed ws are)
+    ∙ ap (λ us. read NoHeader (header_of us) (λ d. Ok d)) (words-all ws are first)
+    ∙ ap (λ o. read NoHeader o (λ d. Ok d)) is
 
 text-reads : (ws : Words) (depth : ℕ) (cs : List Command) → AreWords ws → is_passed_over ws ≡ false → header_of ws ≡ Some depth → nat_le depth max_depth ≡ true → are_accepted depth [] cs ≡ true → reading_of ((line_of ws ++ codes "\n") ++ flat_map command_text cs) ≡ Ok (record { depth = depth; commands = cs })
 text-reads ws depth cs are first is shallow all =

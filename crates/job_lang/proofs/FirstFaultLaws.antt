@@ -10,19 +10,21 @@ use Rattle.std.proofs.lemmas.List.Sums.{prefix_len_passes}
 use Rattle.tree_model.specs.Commands.{Command}
 use Rattle.tree_model.specs.Jobs.{JobData}
 use Rattle.job_lang.specs.declared.fault.JobFault.{JobFault}
+use Rattle.job_lang.specs.declared.fault_kind.FaultKind.{FaultKind}
+use Rattle.job_lang.specs.declared.fault_kind.FaultKind.TheVariants.{ForeignByte, NoHeader}
 use Rattle.job_words.specs.Lines.{words, is_allowed, is_passed_over}
 use Rattle.job_lang.specs.FirstFaults.{line_at, header_at, header_kind, depth_told, said, lines_after, said_before, kind_at, IsFirstFault, IsFaultless}
 use Rattle.job_lang.specs.Grammar.{header_of}
 use Rattle.job_lang.specs.Kinds.{command_in, kind_answered, command_answered, lowest_kind}
-use Rattle.job_lang.specs.Reading.{Header, byte_fault, header_fault, checked, read, command_of_line, commands_from, depth_of_line, header_behind, header_from, job_with, job_behind, reading_of}
+use Rattle.job_lang.specs.Reading.{Header, checked, read, command_of_line, commands_from, depth_of_line, header_behind, header_from, job_with, job_behind, reading_of}
 use Rattle.job_lang.proofs.KindLaws.{line_kind, line_said}
 
 -- the lowest kind of a line after the header's
-abbrev kind_after : ℕ → List Command → List ℕ → Option ℕ
+abbrev kind_after : ℕ → List Command → List ℕ → Option FaultKind
 kind_after depth before line = if is_passed_over (words line) then None else lowest_kind depth before line
 
 -- the kind of the line at an index of these lines, after these commands and those that the lines before it say
-abbrev kind_among : ℕ → List Command → List (List ℕ) → ℕ → Option ℕ
+abbrev kind_among : ℕ → List Command → List (List ℕ) → ℕ → Option FaultKind
 kind_among depth before lines i = kind_after depth (before ++ flat_map said (take i lines)) (line_at lines i)
 
 record IsFirst (depth : ℕ) (before : List Command) (number : ℕ) (lines : List (List ℕ)) (fault : JobFault) : Type 0 where
@@ -79,12 +81,12 @@ read_said depth before line c first is =
     let command = sym (line_said depth before line none) ∙ ap command_answered is in
     ap (λ b. if b then [] else option_map_or (λ c. c ∷ []) (command_in (words line)) []) first ∙ ap (λ o. option_map_or (λ c. c ∷ []) o []) command
 
-answered : ℕ → List Command → ℕ → List (List ℕ) → Result Command ℕ → Result (List Command) JobFault
+answered : ℕ → List Command → ℕ → List (List ℕ) → Result Command FaultKind → Result (List Command) JobFault
 answered depth before number rest (Err kind) = Err (record { line = number; kind = kind })
 answered depth before number rest (Ok command) = commands_from depth (before ++ command ∷ []) (number + 1) rest
 
 -- what comes of a line that isn't passed over
-outcome_of : (depth : ℕ) (before : List Command) (number : ℕ) (line : List ℕ) (rest : List (List ℕ)) (r : Result Command ℕ) →
+outcome_of : (depth : ℕ) (before : List Command) (number : ℕ) (line : List ℕ) (rest : List (List ℕ)) (r : Result Command FaultKind) →
     is_passed_over (words line) ≡ false →
     command_of_line depth before line ≡ r →
     ((cs : List Command) → IsOutcome depth cs (number + 1) rest (commands_from depth cs (number + 1) rest)) →
@@ -103,7 +105,7 @@ outcome_of depth before number line rest (Ok c) first is after =
 passed_from : (depth : ℕ) (before : List Command) (number : ℕ) (line : List ℕ) (rest : List (List ℕ)) → is_passed_over (words line) ≡ true → commands_from depth before number (line ∷ rest) ≡ commands_from depth before (number + 1) rest
 passed_from depth before number line rest passed = rw passed refl
 
-read_from : (depth : ℕ) (before : List Command) (number : ℕ) (line : List ℕ) (rest : List (List ℕ)) (r : Result Command ℕ) → is_passed_over (words line) ≡ false → command_of_line depth before line ≡ r → commands_from depth before number (line ∷ rest) ≡ answered depth before number rest r
+read_from : (depth : ℕ) (before : List Command) (number : ℕ) (line : List ℕ) (rest : List (List ℕ)) (r : Result Command FaultKind) → is_passed_over (words line) ≡ false → command_of_line depth before line ≡ r → commands_from depth before number (line ∷ rest) ≡ answered depth before number rest r
 unfolding answered
 read_from depth before number line rest (Err kind) first is = rw (first, is) refl
 read_from depth before number line rest (Ok c) first is = rw (first, is) refl
@@ -128,7 +130,7 @@ abbrev header_there : ℕ → List (List ℕ) → ℕ → Result Header JobFault
 header_there number lines at = header_behind (number + at) (drop (at + 1) lines) (depth_of_line (line_at lines at))
 
 header_is : (number : ℕ) (lines : List (List ℕ)) → header_from number lines ≡ header_there number lines (header_at lines)
-header_is number [] = let same : number ≡ number + 0 = omega arith in ap (λ n. Err (record { line = n; kind = header_fault })) same
+header_is number [] = let same : number ≡ number + 0 = omega arith in ap (λ n. Err (record { line = n; kind = NoHeader })) same
 header_is number (line ∷ rest) =
     elim (is_passed_over (words line)) as (λ b. is_passed_over (words line) ≡ b → header_from number (line ∷ rest) ≡ header_there number (line ∷ rest) (header_at (line ∷ rest))) [
       | true ↦ λ passed.
@@ -149,16 +151,16 @@ header_is number (line ∷ rest) =
           ∙ ap (header_there number (line ∷ rest)) (sym here)
     ] refl
 
-abbrev kind_told : Result ℕ ℕ → Option ℕ
+abbrev kind_told : Result ℕ FaultKind → Option FaultKind
 kind_told (Ok depth) = None
 kind_told (Err kind) = Some kind
 
-told_kind : (allowed : Bool) (depth : Option ℕ) → (if not allowed then Some byte_fault else if is_none depth then Some header_fault else None) ≡ kind_told (checked byte_fault allowed (read header_fault depth (λ d. Ok d)))
+told_kind : (allowed : Bool) (depth : Option ℕ) → (if not allowed then Some ForeignByte else if is_none depth then Some NoHeader else None) ≡ kind_told (checked ForeignByte allowed (read NoHeader depth (λ d. Ok d)))
 told_kind false depth = refl
 told_kind true None = refl
 told_kind true (Some d) = refl
 
-told_depth : (allowed : Bool) (depth : Option ℕ) (d : ℕ) → checked byte_fault allowed (read header_fault depth (λ d. Ok d)) ≡ Ok d → option_map_or (λ depth. depth) depth 0 ≡ d
+told_depth : (allowed : Bool) (depth : Option ℕ) (d : ℕ) → checked ForeignByte allowed (read NoHeader depth (λ d. Ok d)) ≡ Ok d → option_map_or (λ depth. depth) depth 0 ≡ d
 told_depth false depth d is = cc
 told_depth true None d is = cc
 told_depth true (Some e) d is = cc
@@ -240,7 +242,7 @@ answer_of lines depth number (Err fault) header numbers first =
       before = none_before lines depth first.at header is first.none;
     }
 
-answer_behind : (lines : List (List ℕ)) (r : Result ℕ ℕ) → depth_of_line (line_at lines (header_at lines)) ≡ r → IsAnswer lines (job_behind (header_behind (1 + header_at lines) (lines_after lines) r))
+answer_behind : (lines : List (List ℕ)) (r : Result ℕ FaultKind) → depth_of_line (line_at lines (header_at lines)) ≡ r → IsAnswer lines (job_behind (header_behind (1 + header_at lines) (lines_after lines) r))
 answer_behind lines (Err kind) header = record {
   at = header_at lines;
   line = omega arith;

@@ -9,25 +9,27 @@ use Rattle.job_lang.specs.Checks.{has_numbers, has_room, has_trees, has_forms, i
 use Rattle.job_lang.specs.Grammar.{◌>>=◌, Form, verb_of, form_of, command_of_form}
 use Rattle.job_lang.specs.Kinds.{verb_in, form_in, command_in, kind_answered, command_answered, lowest_kind}
 use Rattle.job_words.specs.Lines.{Words, words, is_allowed, is_passed_over}
-use Rattle.job_lang.specs.Reading.{byte_fault, command_fault, words_fault, limit_fault, tree_fault, form_fault, fence_fault, checked, read, checked_command, command_of_words, command_of_line}
+use Rattle.job_lang.specs.declared.fault_kind.FaultKind.{FaultKind}
+use Rattle.job_lang.specs.declared.fault_kind.FaultKind.TheVariants.{ForeignByte, UnknownCommand, WrongWords, BeyondLimits, UnknownTree, WrongForm, FarFromFence}
+use Rattle.job_lang.specs.Reading.{checked, read, checked_command, command_of_words, command_of_line}
 
 -- the lowest kind, from what the words say
-abbrev lowest : Bool → Option Verb → Option Form → Option Command → ℕ → List Command → Option ℕ
+abbrev lowest : Bool → Option Verb → Option Form → Option Command → ℕ → List Command → Option FaultKind
 lowest allowed verb form command depth before =
-    if not allowed then Some byte_fault
-    else if is_none verb then Some command_fault
-    else if is_none form then Some words_fault
-    else if not (option_map_or (λ c. has_numbers depth c && has_room before c) command false) then Some limit_fault
-    else if option_map_or (λ c. not (has_trees before c)) command false then Some tree_fault
-    else if option_map_or (λ c. not (has_forms before c)) command false then Some form_fault
-    else if option_map_or (λ c. not (is_near_fence before c)) command false then Some fence_fault
+    if not allowed then Some ForeignByte
+    else if is_none verb then Some UnknownCommand
+    else if is_none form then Some WrongWords
+    else if not (option_map_or (λ c. has_numbers depth c && has_room before c) command false) then Some BeyondLimits
+    else if option_map_or (λ c. not (has_trees before c)) command false then Some UnknownTree
+    else if option_map_or (λ c. not (has_forms before c)) command false then Some WrongForm
+    else if option_map_or (λ c. not (is_near_fence before c)) command false then Some FarFromFence
     else None
 
-abbrev tests : Bool → Bool → Bool → Bool → Command → Result Command ℕ
-tests a t f n c = checked limit_fault a (checked tree_fault t (checked form_fault f (checked fence_fault n (Ok c))))
+abbrev tests : Bool → Bool → Bool → Bool → Command → Result Command FaultKind
+tests a t f n c = checked BeyondLimits a (checked UnknownTree t (checked WrongForm f (checked FarFromFence n (Ok c))))
 
-abbrev lowest_test : Bool → Bool → Bool → Bool → Option ℕ
-lowest_test a t f n = if not a then Some limit_fault else if not t then Some tree_fault else if not f then Some form_fault else if not n then Some fence_fault else None
+abbrev lowest_test : Bool → Bool → Bool → Bool → Option FaultKind
+lowest_test a t f n = if not a then Some BeyondLimits else if not t then Some UnknownTree else if not f then Some WrongForm else if not n then Some FarFromFence else None
 
 test_kind : (a t f n : Bool) (c : Command) → kind_answered (tests a t f n c) ≡ lowest_test a t f n
 test_kind true true true true c = refl
@@ -43,14 +45,14 @@ test_command true true false n c none = cc
 test_command true false f n c none = cc
 test_command false t f n c none = cc
 
-abbrev say_command : ℕ → List Command → Option Command → Result Command ℕ
-say_command depth before command = read limit_fault command (checked_command depth before)
+abbrev say_command : ℕ → List Command → Option Command → Result Command FaultKind
+say_command depth before command = read BeyondLimits command (checked_command depth before)
 
-abbrev say_form : ℕ → List Command → Option Form → Result Command ℕ
-say_form depth before form = read words_fault form (λ form. say_command depth before (command_of_form form))
+abbrev say_form : ℕ → List Command → Option Form → Result Command FaultKind
+say_form depth before form = read WrongWords form (λ form. say_command depth before (command_of_form form))
 
-abbrev say_verb : ℕ → List Command → Option Verb → Words → Result Command ℕ
-say_verb depth before verb rest = read command_fault verb (λ verb. say_form depth before (form_of verb rest))
+abbrev say_verb : ℕ → List Command → Option Verb → Words → Result Command FaultKind
+say_verb depth before verb rest = read UnknownCommand verb (λ verb. say_form depth before (form_of verb rest))
 
 command_kind : (depth : ℕ) (before : List Command) (verb : Verb) (form : Form) (command : Option Command) → kind_answered (say_command depth before command) ≡ lowest true (Some verb) (Some form) command depth before
 command_kind depth before verb form None = refl
@@ -64,7 +66,7 @@ verb_kind : (depth : ℕ) (before : List Command) (verb : Option Verb) (rest : W
 verb_kind depth before None rest = refl
 verb_kind depth before (Some verb) rest = form_kind depth before verb (form_of verb rest)
 
-words_kind : (depth : ℕ) (before : List Command) (allowed : Bool) (ws : Words) → is_passed_over ws ≡ false → kind_answered (checked byte_fault allowed (command_of_words depth before ws)) ≡ lowest allowed (verb_in ws) (form_in ws) (command_in ws) depth before
+words_kind : (depth : ℕ) (before : List Command) (allowed : Bool) (ws : Words) → is_passed_over ws ≡ false → kind_answered (checked ForeignByte allowed (command_of_words depth before ws)) ≡ lowest allowed (verb_in ws) (form_in ws) (command_in ws) depth before
 words_kind depth before false ws first = refl
 words_kind depth before true [] first = cc
 words_kind depth before true (word ∷ rest) first = verb_kind depth before (verb_of word) rest
@@ -84,7 +86,7 @@ verb_said : (depth : ℕ) (before : List Command) (verb : Option Verb) (rest : W
 verb_said depth before None rest none = cc
 verb_said depth before (Some verb) rest none = form_said depth before verb (form_of verb rest) none
 
-words_said : (depth : ℕ) (before : List Command) (allowed : Bool) (ws : Words) → lowest allowed (verb_in ws) (form_in ws) (command_in ws) depth before ≡ None → command_answered (checked byte_fault allowed (command_of_words depth before ws)) ≡ command_in ws
+words_said : (depth : ℕ) (before : List Command) (allowed : Bool) (ws : Words) → lowest allowed (verb_in ws) (form_in ws) (command_in ws) depth before ≡ None → command_answered (checked ForeignByte allowed (command_of_words depth before ws)) ≡ command_in ws
 words_said depth before false ws none = cc
 words_said depth before true [] none = cc
 words_said depth before true (word ∷ rest) none = verb_said depth before (verb_of word) rest none

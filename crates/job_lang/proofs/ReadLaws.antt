@@ -8,7 +8,9 @@ use Rattle.job_lang.specs.Checks.{has_names, has_numbers, has_room, has_trees, h
 use Rattle.job_lang.specs.Grammar.{◌>>=◌, Form, verb_of, form_of, command_of_form}
 use Rattle.job_words.specs.Lines.{Words}
 use Rattle.job_lang.specs.Limits.{limited_command}
-use Rattle.job_lang.specs.Reading.{checked, checked_command, command_of_words, limit_fault, tree_fault, form_fault, fence_fault}
+use Rattle.job_lang.specs.declared.fault_kind.FaultKind.{FaultKind}
+use Rattle.job_lang.specs.declared.fault_kind.FaultKind.TheVariants.{BeyondLimits, UnknownTree, WrongForm, FarFromFence}
+use Rattle.job_lang.specs.Reading.{checked, checked_command, command_of_words}
 
 tested : {A : Type 0} (o : Option A) (p : A → Bool) (x : A) → (o >>= λ x. if p x then Some x else None) ≡ Some x → o ≡ Some x
 tested None p x is = cc
@@ -18,7 +20,7 @@ pub command_of_words-checked : (depth : ℕ) (before : List Command) (words : Wo
 command_of_words-checked depth before words first rest verb form c is_words is_verb is_form is_command =
     rw (is_words, is_verb, is_form, tested (command_of_form form) (has_numbers depth) c is_command) refl
 
-all_hold : (c : Command) (a b t f n : Bool) → Ok c ≡ checked limit_fault (a && b) (checked tree_fault t (checked form_fault f (checked fence_fault n (Ok c)))) → (a && (b && (t && (f && n)))) ≡ true
+all_hold : (c : Command) (a b t f n : Bool) → Ok c ≡ checked BeyondLimits (a && b) (checked UnknownTree t (checked WrongForm f (checked FarFromFence n (Ok c)))) → (a && (b && (t && (f && n)))) ≡ true
 all_hold c true true true true true is = refl
 all_hold c true true true true false is = cc
 all_hold c true true true false n is = cc

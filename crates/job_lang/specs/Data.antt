@@ -6,6 +6,7 @@ use Rattle.tree_model.specs.Nodes.{Form}
 use Rattle.tree_model.specs.Nodes.Form.{Reconstructed as ReconstructedForm, Compressed as CompressedForm}
 use Rattle.job_lang.specs.declared.command.Command.{Command as CommandCode}
 use Rattle.job_lang.specs.declared.command.Command.TheVariants.{Project, Refine, Compress, Reconstruct, Add, Mul, Inner, Print, Fence}
+use Rattle.job_lang.specs.declared.fault_kind.FaultKind.{FaultKind}
 use Rattle.job_lang.specs.declared.tree_form.TreeForm.{TreeForm}
 use Rattle.job_lang.specs.declared.tree_form.TreeForm.TheVariants.{Reconstructed, Compressed}
 use Rattle.haar_node.specs.Func.{function_of}
@@ -22,7 +23,7 @@ data_of (Print name) = PrintCommand name
 data_of Fence = FenceCommand
 
 -- a command that was read, or a kind of fault
-abbrev pub command_read : Result CommandCode ℕ → Result Command ℕ
+abbrev pub command_read : Result CommandCode FaultKind → Result Command FaultKind
 command_read (Ok command) = Ok (data_of command)
 command_read (Err kind) = Err kind
 

@@ -6,10 +6,12 @@ use Rattle.std.specs.Str.Lines.{lines as lines_of}
 use Rattle.tree_model.specs.Commands.{Command}
 use Rattle.tree_model.specs.Jobs.{JobData}
 use Rattle.job_lang.specs.declared.fault.JobFault.{JobFault}
+use Rattle.job_lang.specs.declared.fault_kind.FaultKind.{FaultKind}
+use Rattle.job_lang.specs.declared.fault_kind.FaultKind.TheVariants.{ForeignByte, NoHeader}
 use Rattle.job_words.specs.Lines.{words, is_passed_over}
 use Rattle.job_lang.specs.Grammar.{header_of}
 use Rattle.job_lang.specs.Kinds.{command_in, has_foreign_byte, lowest_kind}
-use Rattle.job_lang.specs.Reading.{byte_fault, header_fault, reading_of}
+use Rattle.job_lang.specs.Reading.{reading_of}
 
 -- the line at an index; after the last line each is empty
 abbrev pub line_at : List (List ℕ) → ℕ → List ℕ
@@ -20,8 +22,8 @@ abbrev pub header_at : List (List ℕ) → ℕ
 header_at lines = prefix_len (λ line. is_passed_over (words line)) lines
 
 -- the lowest kind of fault that a line has as the header's: a foreign byte, or words that aren't the header
-abbrev pub header_kind : List ℕ → Option ℕ
-header_kind line = if has_foreign_byte line then Some byte_fault else if is_none (header_of (words line)) then Some header_fault else None
+abbrev pub header_kind : List ℕ → Option FaultKind
+header_kind line = if has_foreign_byte line then Some ForeignByte else if is_none (header_of (words line)) then Some NoHeader else None
 
 -- the depth that the header tells, or 0
 abbrev pub depth_told : List (List ℕ) → ℕ
@@ -39,7 +41,7 @@ abbrev pub said_before : List (List ℕ) → ℕ → List Command
 said_before lines i = flat_map said (take (i - (header_at lines + 1)) (lines_after lines))
 
 -- the lowest kind of fault that the line at an index has, as the header's, or after the commands that the lines before it say
-abbrev pub kind_at : List (List ℕ) → ℕ → Option ℕ
+abbrev pub kind_at : List (List ℕ) → ℕ → Option FaultKind
 kind_at lines i =
     if i == header_at lines then header_kind (line_at lines i)
     else if is_passed_over (words (line_at lines i)) then None

@@ -8,7 +8,9 @@ use Rattle.job_lang.specs.declared.verb.Verb.{Verb}
 use Rattle.job_lang.specs.Checks.{has_numbers, has_room, has_trees, has_forms, is_near_fence}
 use Rattle.job_lang.specs.Grammar.{◌>>=◌, Form, verb_of, form_of, command_of_form}
 use Rattle.job_words.specs.Lines.{Words, words, is_allowed, is_passed_over}
-use Rattle.job_lang.specs.Reading.{byte_fault, command_fault, words_fault, limit_fault, tree_fault, form_fault, fence_fault, command_of_line}
+use Rattle.job_lang.specs.declared.fault_kind.FaultKind.{FaultKind}
+use Rattle.job_lang.specs.declared.fault_kind.FaultKind.TheVariants.{ForeignByte, UnknownCommand, WrongWords, BeyondLimits, UnknownTree, WrongForm, FarFromFence}
+use Rattle.job_lang.specs.Reading.{command_of_line}
 
 -- the verb, the form and the command that words say, where they say one
 abbrev pub verb_in : Words → Option Verb
@@ -49,23 +51,23 @@ abbrev pub is_far_from_fence : List Command → List ℕ → Bool
 is_far_from_fence before line = option_map_or (λ c. not (is_near_fence before c)) (command_in (words line)) false
 
 -- the lowest kind that a line has, if it has one
-abbrev pub lowest_kind : ℕ → List Command → List ℕ → Option ℕ
+abbrev pub lowest_kind : ℕ → List Command → List ℕ → Option FaultKind
 lowest_kind depth before line =
-    if has_foreign_byte line then Some byte_fault
-    else if is_unknown_command line then Some command_fault
-    else if has_wrong_words line then Some words_fault
-    else if is_beyond_limits depth before line then Some limit_fault
-    else if reads_unknown_tree before line then Some tree_fault
-    else if reads_wrong_form before line then Some form_fault
-    else if is_far_from_fence before line then Some fence_fault
+    if has_foreign_byte line then Some ForeignByte
+    else if is_unknown_command line then Some UnknownCommand
+    else if has_wrong_words line then Some WrongWords
+    else if is_beyond_limits depth before line then Some BeyondLimits
+    else if reads_unknown_tree before line then Some UnknownTree
+    else if reads_wrong_form before line then Some WrongForm
+    else if is_far_from_fence before line then Some FarFromFence
     else None
 
 -- the kind of fault that was answered, and the command
-abbrev pub kind_answered : Result Command ℕ → Option ℕ
+abbrev pub kind_answered : Result Command FaultKind → Option FaultKind
 kind_answered (Ok command) = None
 kind_answered (Err kind) = Some kind
 
-abbrev pub command_answered : Result Command ℕ → Option Command
+abbrev pub command_answered : Result Command FaultKind → Option Command
 command_answered (Ok command) = Some command
 command_answered (Err kind) = None
 

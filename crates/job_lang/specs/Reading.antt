@@ -5,73 +5,49 @@ use Rattle.std.specs.Str.Lines.{lines}
 use Rattle.tree_model.specs.Commands.{Command}
 use Rattle.tree_model.specs.Jobs.{JobData}
 use Rattle.job_lang.specs.declared.fault.JobFault.{JobFault}
+use Rattle.job_lang.specs.declared.fault_kind.FaultKind.{FaultKind}
+use Rattle.job_lang.specs.declared.fault_kind.FaultKind.TheVariants.{ForeignByte, NoHeader, UnknownCommand, WrongWords, BeyondLimits, UnknownTree, WrongForm, FarFromFence}
 use Rattle.job_words.specs.Lines.{Words, words, is_allowed, is_passed_over}
 use Rattle.job_lang.specs.Grammar.{header_of, verb_of, form_of, command_of_form}
 use Rattle.job_lang.specs.Checks.{has_numbers, has_room, has_trees, has_forms, is_near_fence}
 
--- the kinds of fault: a byte outside ASCII, no header, an unknown command, words that aren't in its form, a limit, a tree
--- that isn't written, one in the wrong form, and too many commands before a fence
-abbrev pub byte_fault : ℕ
-byte_fault = 1
-
-abbrev pub header_fault : ℕ
-header_fault = 2
-
-abbrev pub command_fault : ℕ
-command_fault = 3
-
-abbrev pub words_fault : ℕ
-words_fault = 4
-
-abbrev pub limit_fault : ℕ
-limit_fault = 5
-
-abbrev pub tree_fault : ℕ
-tree_fault = 6
-
-abbrev pub form_fault : ℕ
-form_fault = 7
-
-abbrev pub fence_fault : ℕ
-fence_fault = 8
-
 -- what comes where a check holds, and else the kind of fault
-abbrev pub checked : {A : Type 0} → ℕ → Bool → Result A ℕ → Result A ℕ
+abbrev pub checked : {A : Type 0} → FaultKind → Bool → Result A FaultKind → Result A FaultKind
 checked kind holds next = if holds then next else Err kind
 
 -- what comes of a value, and where there is none the kind of fault
-abbrev pub read : {A B : Type 0} → ℕ → Option A → (A → Result B ℕ) → Result B ℕ
+abbrev pub read : {A B : Type 0} → FaultKind → Option A → (A → Result B FaultKind) → Result B FaultKind
 read kind None next = Err kind
 read kind (Some x) next = next x
 
 -- a value, where there is no kind of fault
-abbrev pub unless_fault : {A : Type 0} → Option ℕ → A → Result A ℕ
+abbrev pub unless_fault : {A : Type 0} → Option FaultKind → A → Result A FaultKind
 unless_fault None x = Ok x
 unless_fault (Some kind) x = Err kind
 
 -- a command behind those before it, or the lowest kind of fault that it has
-abbrev pub checked_command : ℕ → List Command → Command → Result Command ℕ
+abbrev pub checked_command : ℕ → List Command → Command → Result Command FaultKind
 checked_command depth before c =
-    checked limit_fault (has_numbers depth c && has_room before c)
-    (checked tree_fault (has_trees before c)
-    (checked form_fault (has_forms before c)
-    (checked fence_fault (is_near_fence before c) (Ok c))))
+    checked BeyondLimits (has_numbers depth c && has_room before c)
+    (checked UnknownTree (has_trees before c)
+    (checked WrongForm (has_forms before c)
+    (checked FarFromFence (is_near_fence before c) (Ok c))))
 
 -- the command that words say, the first of which is its verb
-abbrev pub command_of_words : ℕ → List Command → Words → Result Command ℕ
-command_of_words depth before [] = Err command_fault
+abbrev pub command_of_words : ℕ → List Command → Words → Result Command FaultKind
+command_of_words depth before [] = Err UnknownCommand
 command_of_words depth before (word ∷ rest) =
-    read command_fault (verb_of word)
-    (λ verb. read words_fault (form_of verb rest)
-    (λ form. read limit_fault (command_of_form form) (checked_command depth before)))
+    read UnknownCommand (verb_of word)
+    (λ verb. read WrongWords (form_of verb rest)
+    (λ form. read BeyondLimits (command_of_form form) (checked_command depth before)))
 
 -- the command that a line says, or the lowest kind of fault that it has
-abbrev pub command_of_line : ℕ → List Command → List ℕ → Result Command ℕ
-command_of_line depth before line = checked byte_fault (list_all is_allowed line) (command_of_words depth before (words line))
+abbrev pub command_of_line : ℕ → List Command → List ℕ → Result Command FaultKind
+command_of_line depth before line = checked ForeignByte (list_all is_allowed line) (command_of_words depth before (words line))
 
 -- the depth that a line tells as the header, or the lowest kind of fault that it has
-abbrev pub depth_of_line : List ℕ → Result ℕ ℕ
-depth_of_line line = checked byte_fault (list_all is_allowed line) (read header_fault (header_of (words line)) (λ depth. Ok depth))
+abbrev pub depth_of_line : List ℕ → Result ℕ FaultKind
+depth_of_line line = checked ForeignByte (list_all is_allowed line) (read NoHeader (header_of (words line)) (λ depth. Ok depth))
 
 -- the depth that the header tells, the lines behind it, and the number of the first of them
 pub record Header : Type 0 where
@@ -79,13 +55,13 @@ pub record Header : Type 0 where
   pub number : ℕ
   pub rest : List (List ℕ)
 
-abbrev pub header_behind : ℕ → List (List ℕ) → Result ℕ ℕ → Result Header JobFault
+abbrev pub header_behind : ℕ → List (List ℕ) → Result ℕ FaultKind → Result Header JobFault
 header_behind number rest (Ok depth) = Ok (record { depth = depth; number = number + 1; rest = rest })
 header_behind number rest (Err kind) = Err (record { line = number; kind = kind })
 
 -- the first line that isn't passed over has to be the header; lines are numbered from `number`
 abbrev pub header_from : ℕ → List (List ℕ) → Result Header JobFault
-header_from number [] = Err (record { line = number; kind = header_fault })
+header_from number [] = Err (record { line = number; kind = NoHeader })
 header_from number (line ∷ rest) =
     if is_passed_over (words line) then header_from (number + 1) rest
     else header_behind number rest (depth_of_line line)

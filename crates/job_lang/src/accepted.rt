@@ -7,7 +7,8 @@ ghost use Rattle.job_lang.specs.Reading.{checked_command, command_of_line, comma
 ghost use Rattle.job_lang.specs.Slices.{texts};
 
 use crate::command::Command;
-use crate::fault::{BYTE_FAULT, COMMAND_FAULT, JobFault, LIMIT_FAULT, WORDS_FAULT};
+use crate::fault::JobFault;
+use crate::fault_kind::FaultKind;
 use crate::form::Form;
 use crate::history::History;
 use crate::job::Job;
@@ -68,7 +69,7 @@ impl Accepted {
     }
 
     // A command with names, or the lowest kind of fault that it has behind the others.
-    fn checked(&self, command: Command) -> Result<Command, u8>
+    fn checked(&self, command: Command) -> Result<Command, FaultKind>
         requires { has_names (data_of command) ≡ true }
         ensures command { command_read result
             ≡ checked_command self.now.depth self.now.commands (data_of command) }
@@ -82,23 +83,27 @@ impl Accepted {
     }
 
     // The command that a line's words say, or the lowest kind of fault that it has behind the others.
-    fn command_of(&self, alloc: Global, words: &[&[u8]]) -> Result<Result<Command, u8>, AllocError>
+    fn command_of(
+        &self,
+        alloc: Global,
+        words: &[&[u8]],
+    ) -> Result<Result<Command, FaultKind>, AllocError>
         ensures command { IfOk result (λ r. command_read r
             ≡ command_of_words self.now.depth self.now.commands (texts words.now)) }
         ensures accepted { IfOk result (λ r. IfOk r (λ c.
             is_accepted self.now.depth self.now.commands (data_of c) ≡ true)) }
     {
         let Some((first, rest)) = words.split_first() else {
-            return Ok(Err(COMMAND_FAULT));
+            return Ok(Err(FaultKind::UnknownCommand));
         };
         let Some(verb) = Verb::of_word(first) else {
-            return Ok(Err(COMMAND_FAULT));
+            return Ok(Err(FaultKind::UnknownCommand));
         };
         let Some(form) = Form::of_words(verb, rest) else {
-            return Ok(Err(WORDS_FAULT));
+            return Ok(Err(FaultKind::WrongWords));
         };
         let Some(command) = form.to_command(alloc, self.depth)? else {
-            return Ok(Err(LIMIT_FAULT));
+            return Ok(Err(FaultKind::BeyondLimits));
         };
         Ok(self.checked(command))
     }
@@ -109,7 +114,7 @@ impl Accepted {
         alloc: Global,
         line: &[u8],
         words: &[&[u8]],
-    ) -> Result<Result<Command, u8>, AllocError>
+    ) -> Result<Result<Command, FaultKind>, AllocError>
         requires { texts words.now ≡ line_words line.now }
         ensures command { IfOk result (λ r. command_read r
             ≡ command_of_line self.now.depth self.now.commands line.now) }
@@ -117,7 +122,7 @@ impl Accepted {
             is_accepted self.now.depth self.now.commands (data_of c) ≡ true)) }
     {
         if !has_allowed_bytes(line) {
-            return Ok(Err(BYTE_FAULT));
+            return Ok(Err(FaultKind::ForeignByte));
         }
         self.command_of(alloc, words)
     }

@@ -6,11 +6,12 @@ ghost use Rattle.job_lang.specs.Canonical.{canonical_text};
 ghost use Rattle.job_lang.specs.Faults.{fault_line};
 ghost use Rattle.job_lang.specs.Reading.{reading_of};
 ghost use Rattle.job_lang.specs.Versions.{plan_of};
+ghost use Rattle.job_lang.specs.declared.fault_kind.FaultKind.TheVariants.{BeyondLimits, FarFromFence, ForeignByte, NoHeader, UnknownCommand, UnknownTree, WrongForm, WrongWords};
 ghost use Rattle.job_lang.specs.declared.sources.Sources.TheVariants.{Nothing, One, Two};
 
 /// Without any line the header is missing on line 1.
 pub fn empty_input()
-    ensures { reading_of [] ≡ Err (record { line = 1; kind = 2 }) }
+    ensures { reading_of [] ≡ Err (record { line = 1; kind = NoHeader }) }
 {}
 
 /// A header and two commands.
@@ -21,36 +22,36 @@ pub fn projects_and_prints()
 
 /// Lines that are passed over keep their numbers, and a line may end with a carriage return.
 pub fn unknown_tree()
-    ensures { reading_of (codes "job 1\tdepth 02\r\n\n # a\nprint f") ≡ Err (record { line = 4; kind = 6 }) }
+    ensures { reading_of (codes "job 1\tdepth 02\r\n\n # a\nprint f") ≡ Err (record { line = 4; kind = UnknownTree }) }
 {}
 
 /// The header may be the only line; its depth is at most 16.
 pub fn headers()
     ensures alone { reading_of (codes "job 1 depth 16") ≡ Ok (record { depth = 16; commands = [] }) }
-    ensures too_deep { reading_of (codes "job 1 depth 17") ≡ Err (record { line = 1; kind = 2 }) }
-    ensures negative { reading_of (codes "job 1 depth -1") ≡ Err (record { line = 1; kind = 2 }) }
-    ensures other_version { reading_of (codes "# a\njob 2 depth 1") ≡ Err (record { line = 2; kind = 2 }) }
-    ensures one_word_more { reading_of (codes "job 1 depth 1 x") ≡ Err (record { line = 1; kind = 2 }) }
-    ensures only_comments { reading_of (codes "# a\n# b\n") ≡ Err (record { line = 3; kind = 2 }) }
+    ensures too_deep { reading_of (codes "job 1 depth 17") ≡ Err (record { line = 1; kind = NoHeader }) }
+    ensures negative { reading_of (codes "job 1 depth -1") ≡ Err (record { line = 1; kind = NoHeader }) }
+    ensures other_version { reading_of (codes "# a\njob 2 depth 1") ≡ Err (record { line = 2; kind = NoHeader }) }
+    ensures one_word_more { reading_of (codes "job 1 depth 1 x") ≡ Err (record { line = 1; kind = NoHeader }) }
+    ensures only_comments { reading_of (codes "# a\n# b\n") ≡ Err (record { line = 3; kind = NoHeader }) }
 {}
 
 /// A carriage return belongs to a line's end only before a line feed, and `#` after blanks begins a comment.
 pub fn ends_of_lines()
-    ensures return_at_end { reading_of (codes "job 1 depth 0\r") ≡ Err (record { line = 1; kind = 1 }) }
+    ensures return_at_end { reading_of (codes "job 1 depth 0\r") ≡ Err (record { line = 1; kind = ForeignByte }) }
     ensures return_before_feed { reading_of (codes "job 1 depth 0\r\n \t#x y\r\n")
         ≡ Ok (record { depth = 0; commands = [] }) }
-    ensures return_within { reading_of (codes "job 1 depth 0\n\r\r\n") ≡ Err (record { line = 2; kind = 1 }) }
+    ensures return_within { reading_of (codes "job 1 depth 0\n\r\r\n") ≡ Err (record { line = 2; kind = ForeignByte }) }
 {}
 
 /// A byte that no form has is a fault of its line, and none in a comment.
 pub fn foreign_bytes()
     ensures in_header { reading_of (codes "job 1 depth 0" ++ 200 ∷ codes "\n")
-        ≡ Err (record { line = 1; kind = 1 }) }
+        ≡ Err (record { line = 1; kind = ForeignByte }) }
     ensures in_a_command { reading_of (codes "job 1 depth 0\n" ++ 0 ∷ 200 ∷ [])
-        ≡ Err (record { line = 2; kind = 1 }) }
-    ensures last_printable { reading_of (codes "job 1 depth 0\nfence ~") ≡ Err (record { line = 2; kind = 4 }) }
+        ≡ Err (record { line = 2; kind = ForeignByte }) }
+    ensures last_printable { reading_of (codes "job 1 depth 0\nfence ~") ≡ Err (record { line = 2; kind = WrongWords }) }
     ensures delete { reading_of (codes "job 1 depth 0\nfence " ++ 127 ∷ [])
-        ≡ Err (record { line = 2; kind = 1 }) }
+        ≡ Err (record { line = 2; kind = ForeignByte }) }
     ensures in_a_comment { reading_of (codes "#" ++ 200 ∷ 0 ∷ codes "\njob 1 depth 0")
         ≡ Ok (record { depth = 0; commands = [] }) }
 {}
@@ -60,15 +61,15 @@ pub fn limits()
     ensures steepest { reading_of (codes "job 1 depth 1\nproject f ramp 0 16777216 level 0 tol 0")
         ≡ Ok (record { depth = 1; commands = Project (codes "f") (record { function = Ramp (pos 0) (pos 16777216); level = 0; tolerance = 0 }) ∷ [] }) }
     ensures too_steep { reading_of (codes "job 1 depth 1\nproject f ramp 0 16777217 level 0 tol 0")
-        ≡ Err (record { line = 2; kind = 5 }) }
+        ≡ Err (record { line = 2; kind = BeyondLimits }) }
     ensures smallest { reading_of (codes "job 1 depth 1\nproject f const -16777216 level 1 tol 33554432")
         ≡ Ok (record { depth = 1; commands = Project (codes "f") (record { function = Const (negsuc 16777215); level = 1; tolerance = 33554432 }) ∷ [] }) }
     ensures too_small { reading_of (codes "job 1 depth 1\nproject f const -16777217 level 1 tol 0")
-        ≡ Err (record { line = 2; kind = 5 }) }
+        ≡ Err (record { line = 2; kind = BeyondLimits }) }
     ensures level_above_depth { reading_of (codes "job 1 depth 1\nproject f const 0 level 2 tol 0")
-        ≡ Err (record { line = 2; kind = 5 }) }
+        ≡ Err (record { line = 2; kind = BeyondLimits }) }
     ensures negative_tolerance { reading_of (codes "job 1 depth 1\nproject f const 0 level 0 tol -1")
-        ≡ Err (record { line = 2; kind = 5 }) }
+        ≡ Err (record { line = 2; kind = BeyondLimits }) }
     ensures negative_zero { reading_of (codes "job 1 depth 1\nproject f const -0 level -0 tol -0")
         ≡ Ok (record { depth = 1; commands = Project (codes "f") (record { function = Const (pos 0); level = 0; tolerance = 0 }) ∷ [] }) }
 {}
@@ -82,18 +83,18 @@ pub fn order_of_commands()
               ∷ Project (codes "f") (record { function = Const (pos 2); level = 0; tolerance = 0 }) ∷ Print (codes "f") ∷ [];
         }) }
     ensures printed_before { reading_of (codes "job 1 depth 0\nprint f\nproject f const 1 level 0 tol 0")
-        ≡ Err (record { line = 2; kind = 6 }) }
+        ≡ Err (record { line = 2; kind = UnknownTree }) }
     ensures first_fault { reading_of (codes "job 1 depth 0\n\nprnt f\nprint g")
-        ≡ Err (record { line = 3; kind = 3 }) }
+        ≡ Err (record { line = 3; kind = UnknownCommand }) }
 {}
 
 /// The lowest kind of a line with several faults.
 pub fn lowest_kinds()
-    ensures byte_before_command { reading_of (codes "job 1 depth 0\nprnt " ++ 200 ∷ []) ≡ Err (record { line = 2; kind = 1 }) }
-    ensures words_before_limit { reading_of (codes "job 1 depth 0\nproject f const 99999999 level 0") ≡ Err (record { line = 2; kind = 4 }) }
-    ensures limit_before_tree { reading_of (codes "job 1 depth 0\nrefine f 1") ≡ Err (record { line = 2; kind = 5 }) }
-    ensures tree_before_form { reading_of (codes "job 1 depth 0\nproject f const 1 level 0 tol 0\ninner f g") ≡ Err (record { line = 3; kind = 6 }) }
-    ensures wrong_form { reading_of (codes "job 1 depth 0\nproject f const 1 level 0 tol 0\ninner f f") ≡ Err (record { line = 3; kind = 7 }) }
+    ensures byte_before_command { reading_of (codes "job 1 depth 0\nprnt " ++ 200 ∷ []) ≡ Err (record { line = 2; kind = ForeignByte }) }
+    ensures words_before_limit { reading_of (codes "job 1 depth 0\nproject f const 99999999 level 0") ≡ Err (record { line = 2; kind = WrongWords }) }
+    ensures limit_before_tree { reading_of (codes "job 1 depth 0\nrefine f 1") ≡ Err (record { line = 2; kind = BeyondLimits }) }
+    ensures tree_before_form { reading_of (codes "job 1 depth 0\nproject f const 1 level 0 tol 0\ninner f g") ≡ Err (record { line = 3; kind = UnknownTree }) }
+    ensures wrong_form { reading_of (codes "job 1 depth 0\nproject f const 1 level 0 tol 0\ninner f f") ≡ Err (record { line = 3; kind = WrongForm }) }
 {}
 
 /// A written tree may be one of those that are read, and has the form of its last writer.
@@ -104,14 +105,14 @@ pub fn forms_of_trees()
           commands = Project (codes "f") (record { function = Const (pos 1); level = 0; tolerance = 0 })
               ∷ Compress (codes "f") ∷ Add (codes "f") (pos 2) (codes "f") (negsuc 0) (codes "f") ∷ Inner (codes "f") (codes "f") ∷ [];
         }) }
-    ensures refined_in_compressed_form { reading_of (codes "job 1 depth 0\nproject f const 1 level 0 tol 0\ncompress f\nrefine f 0") ≡ Err (record { line = 4; kind = 7 }) }
+    ensures refined_in_compressed_form { reading_of (codes "job 1 depth 0\nproject f const 1 level 0 tol 0\ncompress f\nrefine f 0") ≡ Err (record { line = 4; kind = WrongForm }) }
     ensures turned_back { reading_of (codes "job 1 depth 0\nproject f hash 4294967295 1 level 0 tol 0\ncompress f\nreconstruct f\nmul g = f * f\nfence")
         ≡ Ok (record {
           depth = 0;
           commands = Project (codes "f") (record { function = Hash 4294967295 1; level = 0; tolerance = 0 })
               ∷ Compress (codes "f") ∷ Reconstruct (codes "f") ∷ Mul (codes "g") (codes "f") (codes "f") ∷ Fence ∷ [];
         }) }
-    ensures factor_too_large { reading_of (codes "job 1 depth 0\nproject f const 1 level 0 tol 0\ncompress f\nadd f = 1048577 f + 0 f") ≡ Err (record { line = 4; kind = 5 }) }
+    ensures factor_too_large { reading_of (codes "job 1 depth 0\nproject f const 1 level 0 tol 0\ncompress f\nadd f = 1048577 f + 0 f") ≡ Err (record { line = 4; kind = BeyondLimits }) }
 {}
 
 /// A version has the number of the command that writes it, and a fence ends itself.
@@ -140,12 +141,12 @@ pub fn canonical_texts()
 
 /// The lines that tell faults.
 pub fn fault_lines()
-    ensures command { fault_line (record { line = 4; kind = 3 }) ≡ codes "fault line 4 F3 unknown command" }
-    ensures byte { fault_line (record { line = 1; kind = 1 }) ≡ codes "fault line 1 F1 byte outside ASCII" }
-    ensures words { fault_line (record { line = 1; kind = 4 }) ≡ codes "fault line 1 F4 words" }
-    ensures limit { fault_line (record { line = 1; kind = 5 }) ≡ codes "fault line 1 F5 limit" }
-    ensures tree { fault_line (record { line = 1; kind = 6 }) ≡ codes "fault line 1 F6 unknown tree" }
-    ensures form { fault_line (record { line = 1; kind = 7 }) ≡ codes "fault line 1 F7 wrong form" }
-    ensures fence { fault_line (record { line = 1; kind = 8 }) ≡ codes "fault line 1 F8 too many before a fence" }
-    ensures header { fault_line (record { line = 1048577; kind = 2 }) ≡ codes "fault line 1048577 F2 header" }
+    ensures command { fault_line (record { line = 4; kind = UnknownCommand }) ≡ codes "fault line 4 F3 unknown command" }
+    ensures byte { fault_line (record { line = 1; kind = ForeignByte }) ≡ codes "fault line 1 F1 byte outside ASCII" }
+    ensures words { fault_line (record { line = 1; kind = WrongWords }) ≡ codes "fault line 1 F4 words" }
+    ensures limit { fault_line (record { line = 1; kind = BeyondLimits }) ≡ codes "fault line 1 F5 limit" }
+    ensures tree { fault_line (record { line = 1; kind = UnknownTree }) ≡ codes "fault line 1 F6 unknown tree" }
+    ensures form { fault_line (record { line = 1; kind = WrongForm }) ≡ codes "fault line 1 F7 wrong form" }
+    ensures fence { fault_line (record { line = 1; kind = FarFromFence }) ≡ codes "fault line 1 F8 too many before a fence" }
+    ensures header { fault_line (record { line = 1048577; kind = NoHeader }) ≡ codes "fault line 1048577 F2 header" }
 {}

@@ -6,7 +6,7 @@ ghost use Rattle.job_lang.specs.Reading.{checked_command, unless_fault};
 ghost use Rattle.job_lang.specs.Versions.{step_of, version_behind};
 
 use crate::command::Command;
-use crate::fault::{FENCE_FAULT, FORM_FAULT, LIMIT_FAULT, TREE_FAULT};
+use crate::fault_kind::FaultKind;
 use crate::reads::Reads;
 use crate::sources::Sources;
 use crate::step::Step;
@@ -199,22 +199,22 @@ impl History {
     }
 
     /// The lowest kind of fault that a command with names has behind the commands. None where it has none.
-    pub fn fault_of(&self, depth: u8, before: &[Command], command: &Command) -> Option<u8>
+    pub fn fault_of(&self, depth: u8, before: &[Command], command: &Command) -> Option<FaultKind>
         requires { Recalls (map data_of before.now) self.now }
         ensures { unless_fault result (data_of command.now)
             ≡ checked_command depth (map data_of before.now) (data_of command.now) }
     {
         if !command.has_numbers(depth) || !self.has_room(before, command) {
-            return Some(LIMIT_FAULT);
+            return Some(FaultKind::BeyondLimits);
         }
         if !self.has_trees(before, command) {
-            return Some(TREE_FAULT);
+            return Some(FaultKind::UnknownTree);
         }
         if !self.has_forms(before, command) {
-            return Some(FORM_FAULT);
+            return Some(FaultKind::WrongForm);
         }
         if !self.is_near_fence(before, command) {
-            return Some(FENCE_FAULT);
+            return Some(FaultKind::FarFromFence);
         }
         None
     }

@@ -6,7 +6,7 @@ ghost use Rattle.tree_model.specs.Functions.Function.{Box, Const, Hash, Ramp, St
 ghost use Rattle.tree_model.specs.Functions.{fits};
 ghost use Rattle.job_lang.specs.Checks.{has_numbers, has_room, is_near_fence};
 ghost use Rattle.job_lang.specs.Kinds.{lowest_kind};
-ghost use Rattle.job_lang.specs.Reading.{limit_fault};
+ghost use Rattle.job_lang.specs.declared.fault_kind.FaultKind.TheVariants.{BeyondLimits};
 ghost use Rattle.job_lang.specs.Samples.{constant};
 ghost use Rattle.job_lang.specs.Versions.{trace_fits};
 
@@ -72,7 +72,7 @@ pub fn negative_numbers()
         ∷ codes "project f box 0 -1 0 level 0 tol 0" ∷ codes "project f hash -1 1 level 0 tol 0"
         ∷ codes "project f hash 0 -1 level 0 tol 0" ∷ codes "project f const 0 level -1 tol 0"
         ∷ codes "project f const 0 level 0 tol -1" ∷ codes "refine f -1" ∷ [])
-        ≡ replicate 8 (Some limit_fault) }
+        ≡ replicate 8 (Some BeyondLimits) }
 {}
 
 /// Numbers of a line at their limits, and one above them, as a reader finds them.
@@ -87,7 +87,7 @@ pub fn numbers_of_lines()
         ∷ codes "project f step 5 0 0 level 0 tol 0" ∷ codes "project f box 5 5 0 level 0 tol 0"
         ∷ codes "project f hash 4294967296 1 level 0 tol 0" ∷ codes "project f hash 0 16777217 level 0 tol 0"
         ∷ codes "refine f 3" ∷ [])
-        ≡ replicate 7 (Some limit_fault) }
+        ≡ replicate 7 (Some BeyondLimits) }
 {}
 
 /// A job's commands, its `print`s, and its commands since a fence.

@@ -7,7 +7,8 @@ ghost use Rattle.job_lang.specs.Reading.{header_from, commands_from, depth_of_li
 ghost use Rattle.job_lang.specs.Slices.{texts};
 
 use crate::accepted::Accepted;
-use crate::fault::{BYTE_FAULT, HEADER_FAULT, JobFault};
+use crate::fault::JobFault;
+use crate::fault_kind::FaultKind;
 use crate::form::header_of;
 use crate::job::Job;
 use crate::parse_error::ParseError;
@@ -23,17 +24,17 @@ struct Header<'a> {
 }
 
 // The depth that a line tells as the header, or the lowest kind of fault that it has.
-fn depth_of_line(line: &[u8], words: &[&[u8]]) -> Result<u8, u8>
+fn depth_of_line(line: &[u8], words: &[&[u8]]) -> Result<u8, FaultKind>
     requires { texts words.now ≡ line_words line.now }
     ensures value { result ≡ depth_of_line line.now }
     ensures small { IfOk result (λ depth. depth ≤ max_depth) }
 {
     if !has_allowed_bytes(line) {
-        return Err(BYTE_FAULT);
+        return Err(FaultKind::ForeignByte);
     }
     match header_of(words) {
         Some(depth) => Ok(depth),
-        None => Err(HEADER_FAULT),
+        None => Err(FaultKind::NoHeader),
     }
 }
 
@@ -65,7 +66,7 @@ fn header_from(alloc: Global, text: &[u8]) -> Result<Header, ParseError>
     }
     Err(ParseError::Fault(JobFault {
         line: number,
-        kind: HEADER_FAULT,
+        kind: FaultKind::NoHeader,
     }))
 }
 

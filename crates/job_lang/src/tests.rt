@@ -12,7 +12,7 @@ fn outcome(alloc: Global, text: &[u8]) -> Result<(u8, usize), ParseError> {
     Ok((job.depth(), job.commands().len()))
 }
 
-fn fault(line: u64, kind: u8) -> Result<(u8, usize), ParseError> {
+fn fault(line: u64, kind: FaultKind) -> Result<(u8, usize), ParseError> {
     Err(ParseError::Fault(JobFault { line, kind }))
 }
 
@@ -47,13 +47,16 @@ fn expect_outcomes(rt: &impl Abort, alloc: Global, cases: &[Case]) {
 #[test]
 fn finds_the_header(rt: HostRuntime) {
     let cases: [Case; 7] = [
-        (b"", fault(1, 2)),
-        (b"\n\n", fault(3, 2)),
+        (b"", fault(1, FaultKind::NoHeader)),
+        (b"\n\n", fault(3, FaultKind::NoHeader)),
         (b"job 1 depth 16", Ok((16, 0))),
-        (b"job 1 depth 17\n", fault(1, 2)),
-        (b"job 1 depth 2 \xff\n", fault(1, 1)),
+        (b"job 1 depth 17\n", fault(1, FaultKind::NoHeader)),
+        (b"job 1 depth 2 \xff\n", fault(1, FaultKind::ForeignByte)),
         (b"# \xff\x00\xc3\x28\njob 1 depth 2\n#\xff", Ok((2, 0))),
-        (b"job 1 depth 2\nfence\njob 1 depth 2\n", fault(3, 3)),
+        (
+            b"job 1 depth 2\nfence\njob 1 depth 2\n",
+            fault(3, FaultKind::UnknownCommand),
+        ),
     ];
     expect_outcomes(&rt, rt.alloc(), &cases);
 }
@@ -69,9 +72,12 @@ fn reads_lines_and_words(rt: HostRuntime) {
         (line_feeds, Ok((2, 2))),
         (returns, Ok((2, 2))),
         (tabs, Ok((2, 2))),
-        (return_at_end, fault(3, 1)),
-        (not_ascii, fault(2, 1)),
-        (b"job 1 depth 2\nprint f\n", fault(2, 6)),
+        (return_at_end, fault(3, FaultKind::ForeignByte)),
+        (not_ascii, fault(2, FaultKind::ForeignByte)),
+        (
+            b"job 1 depth 2\nprint f\n",
+            fault(2, FaultKind::UnknownTree),
+        ),
     ];
     expect_outcomes(&rt, rt.alloc(), &cases);
 }
@@ -81,17 +87,23 @@ fn refuses_one_command_too_many(rt: HostRuntime) -> Result<(), Fail> {
     let alloc = rt.alloc();
     let line = b"project f const 1 level 0 tol 0\n";
     assert_eq!(rt; outcome(alloc, &repeated(alloc, line, 32)?), Ok((0, 32)));
-    assert_eq!(rt; outcome(alloc, &repeated(alloc, line, 33)?), fault(34, 8));
+    assert_eq!(rt;
+        outcome(alloc, &repeated(alloc, line, 33)?),
+        fault(34, FaultKind::FarFromFence)
+    );
     assert_eq!(rt;
         outcome(alloc, &repeated(alloc, b"fence\n", 512)?),
         Ok((0, 512))
     );
     assert_eq!(rt;
         outcome(alloc, &repeated(alloc, b"fence\n", 513)?),
-        fault(514, 5)
+        fault(514, FaultKind::BeyondLimits)
     );
     assert_eq!(rt; outcome(alloc, &trees(alloc, 16)?), Ok((0, 16)));
-    assert_eq!(rt; outcome(alloc, &trees(alloc, 17)?), fault(18, 5));
+    assert_eq!(rt;
+        outcome(alloc, &trees(alloc, 17)?),
+        fault(18, FaultKind::BeyondLimits)
+    );
     Ok(())
 }
 
@@ -108,7 +120,10 @@ fn prints(alloc: Global, count: u32) -> Result<Vec<u8>, AllocError> {
 fn refuses_one_print_too_many(rt: HostRuntime) -> Result<(), Fail> {
     let alloc = rt.alloc();
     assert_eq!(rt; outcome(alloc, &prints(alloc, 64)?), Ok((0, 129)));
-    assert_eq!(rt; outcome(alloc, &prints(alloc, 65)?), fault(132, 5));
+    assert_eq!(rt;
+        outcome(alloc, &prints(alloc, 65)?),
+        fault(132, FaultKind::BeyondLimits)
+    );
     Ok(())
 }
 
@@ -116,11 +131,14 @@ fn refuses_one_print_too_many(rt: HostRuntime) -> Result<(), Fail> {
 fn answers_large_texts(rt: HostRuntime) -> Result<(), Fail> {
     let alloc = rt.alloc();
     let comment = vec![in alloc; b'#'; 1_048_577]?;
-    assert_eq!(rt; outcome(alloc, &comment), fault(2, 2));
+    assert_eq!(rt; outcome(alloc, &comment), fault(2, FaultKind::NoHeader));
     let empty_lines = vec![in alloc; b'\n'; 1_048_577]?;
-    assert_eq!(rt; outcome(alloc, &empty_lines), fault(1_048_578, 2));
+    assert_eq!(rt;
+        outcome(alloc, &empty_lines),
+        fault(1_048_578, FaultKind::NoHeader)
+    );
     let words = repeated(alloc, b"a ", 500_000)?;
-    assert_eq!(rt; outcome(alloc, &words), fault(2, 3));
+    assert_eq!(rt; outcome(alloc, &words), fault(2, FaultKind::UnknownCommand));
     let comments = repeated(alloc, b"# a\n", 250_000)?;
     assert_eq!(rt; outcome(alloc, &comments), Ok((0, 0)));
     Ok(())
@@ -151,7 +169,10 @@ fn keeps_what_a_command_says(rt: HostRuntime) -> Result<(), Fail> {
 
 #[test]
 fn prints_faults(rt: HostRuntime) -> Result<(), Fail> {
-    let fault = ParseError::Fault(JobFault { line: 4, kind: 3 });
+    let fault = ParseError::Fault(JobFault {
+        line: 4,
+        kind: FaultKind::UnknownCommand,
+    });
     assert_eq!(rt;
         fault.to_string(rt.alloc())?.as_str(),
         "fault line 4 F3 unknown command"

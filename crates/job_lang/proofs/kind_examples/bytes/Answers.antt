@@ -1,5 +1,5 @@
 use Rattle.std.proofs.Common.{refl}
-use Rattle.job_lang.proofs.fault_examples.bytes.Goals as goal
+use Rattle.job_lang.proofs.kind_examples.bytes.Goals as goal
 
 pub returns-clause-allowed : goal.returns-clause-allowed
 returns-clause-allowed c = refl

@@ -3,7 +3,7 @@
 ghost use Rattle.std.specs.Prelude.{◌≡◌, [], ◌∷◌, ◌++◌, None, Some, codes, false, map, replicate, true};
 ghost use Rattle.std.specs.List.{list_all, list_any};
 ghost use Rattle.job_lang.specs.Kinds.{has_foreign_byte, lowest_kind};
-ghost use Rattle.job_lang.specs.Reading.{fence_fault, form_fault, limit_fault, tree_fault};
+ghost use Rattle.job_lang.specs.declared.fault_kind.FaultKind.TheVariants.{BeyondLimits, FarFromFence, UnknownTree, WrongForm};
 ghost use Rattle.job_lang.specs.Samples.{two_forms};
 ghost use Rattle.job_words.specs.Names.{is_name};
 ghost use Rattle.tree_model.specs.Commands.Command.{Print};
@@ -12,26 +12,26 @@ ghost use Rattle.tree_model.specs.Commands.Command.{Print};
 pub fn unknown_trees()
     ensures first { map (lowest_kind 0 two_forms)
         (codes "mul h = u * r" ∷ codes "add h = 1 u + 1 c" ∷ codes "inner u c" ∷ [])
-        ≡ replicate 3 (Some tree_fault) }
+        ≡ replicate 3 (Some UnknownTree) }
     ensures second { map (lowest_kind 0 two_forms)
         (codes "mul h = r * u" ∷ codes "add h = 1 c + 1 u" ∷ codes "inner c u" ∷ [])
-        ≡ replicate 3 (Some tree_fault) }
+        ≡ replicate 3 (Some UnknownTree) }
     ensures only { map (lowest_kind 0 two_forms)
         (codes "refine u 0" ∷ codes "compress u" ∷ codes "reconstruct u" ∷ codes "print u" ∷ [])
-        ≡ replicate 4 (Some tree_fault) }
+        ≡ replicate 4 (Some UnknownTree) }
 {}
 
 /// Commands whose first tree, whose second or whose only one is in the wrong form.
 pub fn wrong_forms()
     ensures first { map (lowest_kind 0 two_forms)
         (codes "mul h = c * r" ∷ codes "add h = 1 r + 1 c" ∷ codes "inner r c" ∷ [])
-        ≡ replicate 3 (Some form_fault) }
+        ≡ replicate 3 (Some WrongForm) }
     ensures second { map (lowest_kind 0 two_forms)
         (codes "mul h = r * c" ∷ codes "add h = 1 c + 1 r" ∷ codes "inner c r" ∷ [])
-        ≡ replicate 3 (Some form_fault) }
+        ≡ replicate 3 (Some WrongForm) }
     ensures only { map (lowest_kind 0 two_forms)
         (codes "refine c 0" ∷ codes "compress c" ∷ codes "reconstruct r" ∷ [])
-        ≡ replicate 3 (Some form_fault) }
+        ≡ replicate 3 (Some WrongForm) }
     ensures right { map (lowest_kind 0 two_forms)
         (codes "mul h = r * r" ∷ codes "add h = 1 c + 1 c" ∷ codes "inner c c" ∷ codes "refine r 0"
         ∷ codes "compress r" ∷ codes "reconstruct c" ∷ codes "print r" ∷ codes "print c" ∷ [])
@@ -42,7 +42,7 @@ pub fn wrong_forms()
 pub fn one_kind_before_another()
     ensures { map (lowest_kind 0 (two_forms ++ replicate 29 (Print (codes "r"))))
         (codes "refine u 1" ∷ codes "refine c 1" ∷ codes "mul h = u * c" ∷ codes "refine c 0" ∷ codes "refine r 0" ∷ codes "fence" ∷ [])
-        ≡ Some limit_fault ∷ Some limit_fault ∷ Some tree_fault ∷ Some form_fault ∷ Some fence_fault ∷ None ∷ [] }
+        ≡ Some BeyondLimits ∷ Some BeyondLimits ∷ Some UnknownTree ∷ Some WrongForm ∷ Some FarFromFence ∷ None ∷ [] }
 {}
 
 /// Names with the first and the last letter and digit, and with the bytes next to them; and with 16 bytes and 17.

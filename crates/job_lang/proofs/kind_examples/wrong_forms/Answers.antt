@@ -1,5 +1,5 @@
 use Rattle.std.proofs.Common.{refl}
-use Rattle.job_lang.proofs.fault_examples.unknown_trees.Goals as goal
+use Rattle.job_lang.proofs.kind_examples.wrong_forms.Goals as goal
 
 pub returns-clause-first : goal.returns-clause-first
 returns-clause-first c = refl
@@ -9,3 +9,6 @@ returns-clause-second c = refl
 
 pub returns-clause-only : goal.returns-clause-only
 returns-clause-only c = refl
+
+pub returns-clause-right : goal.returns-clause-right
+returns-clause-right c = refl

@@ -1,5 +1,5 @@
 use Rattle.std.proofs.Common.{refl}
-use Rattle.job_lang.proofs.fault_examples.names.Goals as goal
+use Rattle.job_lang.proofs.kind_examples.names.Goals as goal
 
 pub returns-clause-names : goal.returns-clause-names
 returns-clause-names c = refl
