@@ -1,5 +1,8 @@
 //! Examples that were computed by hand: each function's contract is one, and its body is empty.
-ghost use Rattle.std.specs.Prelude.{◌≡◌, ◌≢◌, false, [], ◌∷◌, Contains};
+ghost use Rattle.std.specs.Prelude.{◌≡◌, ◌≢◌, ℕ, false, List, [], ◌∷◌, slice_get, Contains};
+ghost use Rattle.app_core.specs.declared.label.Label.{Label as Name};
+ghost use Rattle.app_core.specs.declared.label.CellName.{CellName as Entry};
+ghost use Rattle.app_core.specs.declared.outline.Outline.{Outline as Told};
 ghost use Rattle.app_core.specs.declared.outline.Outline.TheVariants as of;
 ghost use Rattle.event_lists.specs.Runs.{main_does};
 ghost use Rattle.event_lists.specs.declared.event.Event.TheVariants.{Receipt as Receives};
@@ -34,10 +37,13 @@ pub fn other_premises_are_met()
     ensures unwritten { HasNoWriter writer_of IsSound 2 }
 {}
 
-/// Two units with different labels may put one entry, and one of them spawns the other where it doesn't put it.
+/// Two units with different labels may put one entry, and one of them spawns the other where it doesn't put it. So it
+/// isn't so that an entry alone tells the label of the unit that may put it.
 pub fn two_units_may_put_one_entry()
     ensures early { MayDo 2 (label_of (Guessed Early)) (of.Put guess_entry ∷ of.Give guess_result (kept_at guess_result 2) ∷ []) }
     ensures late { MayDo 2 (label_of (Guessed Late)) (of.Put guess_entry ∷ of.Give guess_result (kept_at guess_result 2) ∷ []) }
     ensures apart { label_of (Guessed Early) ≢ label_of (Guessed Late) }
+    ensures no_single_label { ((p q : Name) (os ps : List Told) (i j : ℕ) (entry : Entry) → MayDo 2 p os → MayDo 2 q ps
+        → slice_get os i ≡ Some (of.Put entry) → slice_get ps j ≡ Some (of.Put entry) → p ≡ q) → ⊥ }
     ensures spawns { MayDo 2 (label_of (Guessed Early)) (of.Spawn (label_of (Guessed Late)) (Some guess_result) [] 0 ∷ []) }
 {}
