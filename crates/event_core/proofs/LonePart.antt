@@ -1,5 +1,5 @@
 -- Books of one lane.
-use Rattle.std.proofs.Common.{◌≡◌, ℕ, List, [], ◌∷◌, sym, subst, ap, ◌∙◌, arith}
+use Rattle.std.proofs.Common.{◌≡◌, ℕ, ◌≤◌, List, [], ◌∷◌, length, sym, subst, ap, ◌∙◌, arith}
 use Rattle.std.specs.Prelude.{All}
 use Rattle.std.proofs.lemmas.List.Elements.{All-nil, All-cons}
 use Rattle.std.proofs.lemmas.List.Kept.{AllPairs-cons}
@@ -16,6 +16,7 @@ entered_is_book f = record {
   workers = omega arith;
   named = All-cons (λ (p : PartData). IsLane 1 0 p.lane) one [] (omega arith, omega arith) (All-nil (λ (p : PartData). IsLane 1 0 p.lane));
   ordered = AllPairs-cons (λ (p q : PartData). IsBefore p.lane q.lane) one [] (All-nil (λ (q : PartData). IsBefore one.lane q.lane)) (λ i j d lt within. absurd (omega arith));
+  written = All-cons (λ (p : PartData). 1 ≤ length p.events) one [] (omega arith) (All-nil (λ (p : PartData). 1 ≤ length p.events));
   rows = All-cons (λ (p : PartData). All (HasRows 1) p.events) one [] (All-cons (HasRows 1) (Enter f) [] (λ r e. absurd (cc)) (All-nil (HasRows 1))) (All-nil (λ (p : PartData). All (HasRows 1) p.events));
 }
   where

@@ -32,12 +32,14 @@ IsBefore a b = ((a.bin ≡ false) × (b.bin ≡ true)) ⊎ ((a.bin ≡ b.bin) ×
 abbrev pub HasRows : ℕ → Event → Type 0
 HasRows ranks e = (r : _) → e ≡ Receives r → length r.rows ≡ ranks
 
--- what a book keeps
+-- what a book keeps: lanes that there are, in order and each at most once, with at least one event each (a lane without
+-- events is absent), and the rows of each receipt
 pub record IsBook (b : BookData) : Type 0 where
   pub ranks : IsRankCount b.ranks
   pub workers : b.workers ≤ 4
   pub named : All (λ p. IsLane b.ranks b.workers p.lane) b.parts
   pub ordered : AllPairs (λ p q. IsBefore p.lane q.lane) b.parts
+  pub written : All (λ p. 1 ≤ length p.events) b.parts
   pub rows : All (λ p. All (HasRows b.ranks) p.events) b.parts
 
 -- the events of a lane in a book, in order: none where it isn't there

@@ -51,8 +51,8 @@ impl LanePart {
 
 /// The parts of the lanes of a run, over 1 to 16 ranks with 0 to 4 workers each.
 ///
-/// Each lane stands there at most once: hands first, by rank and number, then bins, by rank and number. A lane without
-/// events may be left out. Each receipt has a row for each rank.
+/// Each lane that wrote an event stands there once, and no other: hands first, by rank and number, then bins, by rank and
+/// number. Each receipt has a row for each rank.
 #[derive(Drop)]
 pub struct Book {
     ranks: u32,
