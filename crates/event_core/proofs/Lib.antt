@@ -1,2 +1,3 @@
 pub mod BookParts
 pub mod LonePart
+pub mod BookExamples

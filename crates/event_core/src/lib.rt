@@ -7,6 +7,7 @@
 #![tactic(auto)]
 
 mod book;
+mod examples;
 mod laws;
 mod list;
 #[cfg(test)]
@@ -20,5 +21,6 @@ pub use event_lists::{
     events_are_counted_once, futures_have_their_names, nothing_changes_up_to_the_receipt,
     nothing_is_open_between_the_passes, receipts_are_quiet,
 };
+pub use examples::{books_are_judged, orders_of_parts_are_judged};
 pub use laws::takings_and_numbers_of_a_lawful_book_are_apart;
 pub use list::EventList;
