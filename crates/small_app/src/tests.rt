@@ -27,9 +27,11 @@ const fn entry(place: u64) -> CellName {
     CellName { version: 1, place }
 }
 
-const fn guessed(unit: GuessUnit) -> Unit {
-    Unit::Guessed(unit)
-}
+const GUESS: Unit = Unit::Guessed(GuessUnit::Guess);
+
+const EARLY: Unit = Unit::Guessed(GuessUnit::Early);
+
+const LATE: Unit = Unit::Guessed(GuessUnit::Late);
 
 // What is told of a unit.
 fn told<A: App>(
@@ -101,27 +103,9 @@ fn units_have_their_names_and_ranks(rt: HostRuntime) {
         (Unit::Read, 0, 2, Some(future(3, 2)), [0, 1, 1]),
         (Unit::Count, 0, 3, Some(future(3, 3)), [0, 1, 1]),
         (Unit::Total, 1, 1, Some(future(3, 1)), [0, 0, 0]),
-        (
-            guessed(GuessUnit::Guess),
-            0,
-            2,
-            Some(future(5, 2)),
-            [0, 1, 1],
-        ),
-        (
-            guessed(GuessUnit::Early),
-            1,
-            1,
-            Some(future(5, 1)),
-            [0, 0, 0],
-        ),
-        (
-            guessed(GuessUnit::Late),
-            2,
-            1,
-            Some(future(5, 1)),
-            [0, 0, 0],
-        ),
+        (GUESS, 0, 2, Some(future(5, 2)), [0, 1, 1]),
+        (EARLY, 1, 1, Some(future(5, 1)), [0, 0, 0]),
+        (LATE, 2, 1, Some(future(5, 1)), [0, 0, 0]),
     ];
     for (unit, part, place, due, homes) in cases {
         let reads = if unit == Unit::Read {
@@ -180,10 +164,7 @@ fn commands_start_their_units(rt: HostRuntime) {
     assert!(rt; are(app.starts(alloc, 3, 1), &last));
     assert!(rt; are(app.starts(alloc, 4, 1), &[]));
     let needs = Needs::of(&[future(5, 2)]).unwrap_or(Needs::none());
-    let guessing = [
-        Effect::Spawn(guessed(GuessUnit::Guess)),
-        Effect::SpawnNeeding(guessed(GuessUnit::Early), needs),
-    ];
+    let guessing = [Effect::Spawn(GUESS), Effect::SpawnNeeding(EARLY, needs)];
     assert!(rt; are(app.starts(alloc, 5, 2), &guessing));
 }
 
@@ -265,14 +246,11 @@ fn the_early_unit_puts_the_entry_or_has_the_late_one_put_it(rt: HostRuntime) -> 
         [Effect::Put(name, 9), Effect::Give(future(5, 1), 9)]
     };
     let guess = [Effect::Give(future(5, 2), 1)];
-    assert!(rt; are(step(&app, alloc, guessed(GuessUnit::Guess), none()), &guess));
-    assert!(rt; are(step(&app, alloc, guessed(GuessUnit::Late), none()), &put()));
-    for (number, effects) in [
-        (0u64, put().as_slice()),
-        (1, &[Effect::Spawn(guessed(GuessUnit::Late))]),
-    ] {
+    assert!(rt; are(step(&app, alloc, GUESS, none()), &guess));
+    assert!(rt; are(step(&app, alloc, LATE, none()), &put()));
+    for (number, effects) in [(0u64, put().as_slice()), (1, &[Effect::Spawn(LATE)])] {
         let given = Inputs::new([number].to_vec(alloc)?, Vec::new(alloc), 0);
-        assert!(rt; are(step(&app, alloc, guessed(GuessUnit::Early), given), effects));
+        assert!(rt; are(step(&app, alloc, EARLY, given), effects));
     }
     Ok(())
 }
@@ -296,6 +274,7 @@ fn a_second_thread_finds_what_a_step_gives(rt: HostRuntime) {
 #[test]
 fn laws_hold_here() {
     laws::right_inputs_fit::<SmallApp>();
+    laws::sizes_are_zero_where_nothing_is_counted::<SmallApp>();
     laws::spawns_of_a_step_are_apart::<SmallApp>();
     laws::starts_of_a_command_are_apart::<SmallApp>();
 }
