@@ -9,9 +9,7 @@ ghost use Rattle.small_app.specs.SmallLaws as laws;
 
 use crate::guess::{GUESS_FUTURE, GUESS_RESULT, GuessUnit};
 use crate::unit::Unit;
-use app_core::{
-    App, CellName, CommandKind, Effect, Effects, Facts, Inputs, Label, OutOfMemory,
-};
+use app_core::{App, CellName, CommandKind, Effect, Effects, Facts, Inputs, Label, OutOfMemory};
 use std::alloc::Global;
 
 /// The small application, made for a number of ranks from 1 to 16.

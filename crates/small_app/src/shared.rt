@@ -64,14 +64,13 @@ fn give_and_look<A: App, J: Naming<A> + Send + Sync, R: Threads + Wait + Sync>(
 {
     let shared: Mutex<Table<A, J>> = Mutex::new(Table::new(alloc));
     let table = &shared;
-    let mut queue = effects.queue();
-    let work = &mut queue;
+    let work = &mut effects;
     let (given, found) = join(
         rt,
         move || -> Result<(), OutOfMemory>
             requires named { J.app ≡ Some app.now }
             requires right { AllByRecursion (IsRightEffect (A.right_value app.now) (A.right_cell app.now) (A.is_unit app.now)) work.now }
-        { give(rt, app, table, work) },
+        { give(rt, app, table, &mut work.queue()) },
         move || -> Result<Option<A::Value>, OutOfMemory>
             requires named { J.app ≡ Some app.now }
             ensures { IfOk result (λ o. IfSome o (λ v. A.right_value app.entry.now future v)) }

@@ -3,9 +3,7 @@ ghost use Rattle.std.specs.Prelude.{◌≡◌, ◌<◌, length, IfOk};
 ghost use Rattle.app_core.specs.Commands.{IsCommand, IsRankCount};
 
 use super::*;
-use app_core::{
-    App, CellName, CommandKind, Effects, Inputs, Label, LentEffect, OutOfMemory, laws,
-};
+use app_core::{App, CellName, CommandKind, Effects, Inputs, Label, LentEffect, OutOfMemory, laws};
 use std::alloc::Global;
 use std::test::Fail;
 
@@ -154,10 +152,11 @@ fn are(
 fn commands_start_their_units(rt: HostRuntime) {
     let app = app(4);
     let alloc = rt.alloc();
+    let needs = [future(3, 2), future(3, 3)];
     let last = [
         LentEffect::Spawn(Unit::Read),
         LentEffect::Spawn(Unit::Count),
-        LentEffect::SpawnNeeding(Unit::Total, &[future(3, 2), future(3, 3)]),
+        LentEffect::SpawnNeeding(Unit::Total, &needs),
     ];
     assert!(rt; are(app.starts(alloc, 1, 4), &[LentEffect::Spawn(Unit::Fill)]));
     assert!(rt; are(app.starts(alloc, 2, 4), &[]));
@@ -181,17 +180,24 @@ fn the_first_command_gives_twelve(rt: HostRuntime) -> Result<(), Fail> {
         right: true,
         value: 7,
     };
+    let needs = [future(1, 2), future(1, 3)];
     let filled = [
         LentEffect::Spawn(left),
         LentEffect::Spawn(right),
-        LentEffect::SpawnNeeding(Unit::Sum, &[future(1, 2), future(1, 3)]),
+        LentEffect::SpawnNeeding(Unit::Sum, &needs),
     ];
     assert!(rt; are(step(&app, alloc, Unit::Fill, none()), &filled));
-    let put = [LentEffect::Put(entry(3), 7), LentEffect::Give(future(1, 3), 7)];
+    let put = [
+        LentEffect::Put(entry(3), 7),
+        LentEffect::Give(future(1, 3), 7),
+    ];
     assert!(rt; are(step(&app, alloc, right, none()), &put));
     let values = [5u64, 7].to_vec(alloc)?;
     let given = Inputs::new(values, Vec::new(alloc), 0);
-    let summed = [LentEffect::Spawn(Unit::Clear), LentEffect::Give(future(1, 1), 12)];
+    let summed = [
+        LentEffect::Spawn(Unit::Clear),
+        LentEffect::Give(future(1, 1), 12),
+    ];
     assert!(rt; are(step(&app, alloc, Unit::Sum, given), &summed));
     assert!(rt;
         are(
