@@ -3,5 +3,6 @@ mod alike;
 mod books;
 mod fences;
 mod long_run;
+mod memory;
 mod offers;
 mod rounds;
