@@ -12,7 +12,7 @@ ghost use Rattle.app_core.specs.Inputs.{Fits, AreRightInputs};
 ghost use Rattle.app_core.specs.Effects.{IsRightEffect, IsSpawnedWithNeeds, IsSpawn};
 ghost use Rattle.app_core.specs.Outlines.{outlines, IsDueOnce, IsNeededOnce, IsNeededNever, IsSeenToOnce, GivesOnly, NeedingRunsAt, Names, Touches};
 
-use crate::effect::OutOfMemory;
+use crate::OutOfMemory;
 use crate::effects::Effects;
 use crate::facts::Facts;
 use crate::inputs::Inputs;

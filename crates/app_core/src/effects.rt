@@ -4,7 +4,8 @@ ghost use Rattle.app_core.specs.declared.effect.Effect.TheVariants.{SpawnNeeding
 ghost use Rattle.smallvec.specs.SmallVec.{HasRoomFor};
 ghost use Rattle.app_core.specs.Needs.{AreDistinct, max_needs};
 
-use crate::effect::{Effect, OutOfMemory};
+use crate::OutOfMemory;
+use crate::effect::Effect;
 use crate::effect_queue::EffectQueue;
 use crate::effect_with::{EffectWith, Span};
 use crate::label::Label;

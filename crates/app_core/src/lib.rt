@@ -25,7 +25,7 @@ mod needs;
 mod outline;
 
 pub use app::App;
-pub use effect::{Effect, OutOfMemory};
+pub use effect::Effect;
 pub use effect_queue::EffectQueue;
 pub use effect_with::{EffectWith, LentEffect};
 pub use effects::Effects;
@@ -36,3 +36,5 @@ pub use label::{CellName, Label};
 pub use naming::Naming;
 pub use needs::Needs;
 pub use outline::{CommandKind, Outline};
+/// No memory is left for what a call has to make.
+pub use std::alloc::AllocError as OutOfMemory;

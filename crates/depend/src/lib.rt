@@ -10,5 +10,7 @@ mod refusals;
 mod tests;
 mod waiting;
 
-pub use refusals::{OutOfMemory, Twice};
+pub use refusals::Twice;
 pub use waiting::{Learned, Waiting};
+/// No memory is left for what a call has to make.
+pub use std::alloc::AllocError as OutOfMemory;

@@ -2,7 +2,8 @@
 ghost use Rattle.std.specs.Prelude.{◌≡◌, ◌<◌, ◌≤◌, ◌↔◌, ℕ, length, map, replicate, slice_set, None, Some, IfErr, IfOk, IsErr, IsTrue, OnErr, OnOk};
 ghost use Rattle.depend.specs.Places.{IsFilled, IsLastEmpty, IsReady, empty_count};
 
-use crate::refusals::{OutOfMemory, Twice};
+use crate::OutOfMemory;
+use crate::refusals::Twice;
 use std::alloc::Global;
 use std::marker::Model;
 

@@ -26,6 +26,8 @@ pub use sink::Sink;
 pub use source::{Failed, Source};
 pub use std_sink::StdSink;
 pub use std_source::StdSource;
-pub use sure_sink::{OutOfMemory, SureSink};
+pub use sure_sink::SureSink;
 pub use sure_source::SureSource;
 pub use writing::{WriteFault, write_all};
+/// No memory is left for what a call has to make.
+pub use std::alloc::AllocError as OutOfMemory;

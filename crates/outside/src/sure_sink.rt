@@ -3,16 +3,11 @@ ghost use Rattle.std.specs.Prelude.{◌≡◌, ℕ, ◌-◌, ◌<◌, ◌≤◌,
 ghost use Rattle.std.specs.Io.KnownBytes.{WriteAppends};
 ghost use Rattle.outside.specs.Causes.{HasCause};
 
+use crate::OutOfMemory;
 use crate::sink::Sink;
 use crate::source::Failed;
 use std::alloc::Global;
 use std::marker::Model;
-use thiserror::Error;
-
-/// There was not enough memory.
-#[derive(Clone, Copy, Debug, PartialEq, Eq, Error)]
-#[error("out of memory")]
-pub struct OutOfMemory;
 
 /// A sink in memory that never fails: its count of faults is always 0. It fits the pieces that are
 /// no longer than the room left, for which it has the memory.
