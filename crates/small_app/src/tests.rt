@@ -162,8 +162,11 @@ fn commands_start_their_units(rt: HostRuntime) {
     assert!(rt; are(app.starts(alloc, 2, 4), &[]));
     assert!(rt; are(app.starts(alloc, 3, 1), &last));
     assert!(rt; are(app.starts(alloc, 4, 1), &[]));
-    let needs = Needs::of(&[future(5, 2)]).unwrap_or(Needs::none());
-    let guessing = [Effect::Spawn(GUESS), Effect::SpawnNeeding(EARLY, needs)];
+    let needs = [future(5, 2)];
+    let guessing = [
+        LentEffect::Spawn(GUESS),
+        LentEffect::SpawnNeeding(EARLY, &needs),
+    ];
     assert!(rt; are(app.starts(alloc, 5, 2), &guessing));
 }
 
@@ -249,12 +252,12 @@ fn the_early_unit_puts_the_entry_or_has_the_late_one_put_it(rt: HostRuntime) -> 
             version: 2,
             place: 1,
         };
-        [Effect::Put(name, 9), Effect::Give(future(5, 1), 9)]
+        [LentEffect::Put(name, 9), LentEffect::Give(future(5, 1), 9)]
     };
-    let guess = [Effect::Give(future(5, 2), 1)];
+    let guess = [LentEffect::Give(future(5, 2), 1)];
     assert!(rt; are(step(&app, alloc, GUESS, none()), &guess));
     assert!(rt; are(step(&app, alloc, LATE, none()), &put()));
-    for (number, effects) in [(0u64, put().as_slice()), (1, &[Effect::Spawn(LATE)])] {
+    for (number, effects) in [(0u64, put().as_slice()), (1, &[LentEffect::Spawn(LATE)])] {
         let given = Inputs::new([number].to_vec(alloc)?, Vec::new(alloc), 0);
         assert!(rt; are(step(&app, alloc, EARLY, given), effects));
     }
