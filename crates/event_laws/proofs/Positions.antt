@@ -70,14 +70,6 @@ taken_stands c (x ∷ log) t = ⊎_elim
     (λ rest. let s = taken_stands c log rest in (s.0, s.1, begins_more (s.0 ∷ s.1) log x s.2, s.3))
     (or_cases (is_item c (takes x.event)) (is_taken c log) t)
 
--- what was taken or carried out stays so
-taken_grows : (c : Item) (more log : List Mark) → is_taken c log ≡ true → is_taken c (more ++ log) ≡ true
-taken_grows c [] log t = t
-taken_grows c (x ∷ more) log t = taken_more c x (more ++ log) (taken_grows c more log t)
-
-pub taken_begins : (c : Item) (old log : List Mark) → Begins old log → is_taken c old ≡ true → is_taken c log ≡ true
-taken_begins c old log b t = subst (λ (z : List Mark). is_taken c z ≡ true) (sym b.1) (taken_grows c b.0 old t)
-
 carried_grows : (r n i : ℕ) (more log : List Mark) → carried_out r n i log ≡ true → carried_out r n i (more ++ log) ≡ true
 carried_grows r n i [] log t = t
 carried_grows r n i (x ∷ more) log t = or_right (is_effect r n i x.effect) (carried_out r n i (more ++ log)) (carried_grows r n i more log t)

@@ -31,10 +31,6 @@ begins_both a b m [] e le = (m, sym e)
 begins_both a b [] (y ∷ n) e le = absurd (omega (arith, ap length e, length-append (y ∷ n) b))
 begins_both a b (x ∷ m) (y ∷ n) e le = begins_both a b m n (cc) le
 
-pub stands_begins : (x : Mark) (more log : List Mark) → Stands x log → Stands x (more ++ log)
-stands_begins x [] log s = s
-stands_begins x (y ∷ more) log s = inr (stands_begins x more log s)
-
 on_more : (l : LaneName) (e : Event) (more log : List Mark) → StandsOn l e log → StandsOn l e (more ++ log)
 on_more l e [] log s = s
 on_more l e (y ∷ more) log s = inr (on_more l e more log s)

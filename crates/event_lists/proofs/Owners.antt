@@ -133,16 +133,6 @@ owns_back ranks workers f log x h c o = go (is_item c (makes x.lane.rank x.event
     go true e i = inl (is_item_some c (makes x.lane.rank x.event) e, i)
     go false e i = inr (record { due = i; still = still })
 
--- what moves a due
-record Own (f : Future) (h : Option Item) (log : List Mark) : Type 0 where
-  item : Item
-  hand : h ≡ Some item
-  due : due_of item log ≡ Some f
-
-own_item : (f : Future) (h : Option Item) (log : List Mark) → own_due h log ≡ Some f → Own f h log
-own_item f None log i = absurd (cc)
-own_item f (Some c) log i = record { item = c; hand = refl; due = i }
-
 unkept : (d : Label) (e : Event) (mine : List Event) → passes_on d e ≡ true → takes e ≡ None → is_kept d (e ∷ mine) ≡ true → ⊥
 unkept d (TookTask r n) mine p t k = absurd (cc)
 unkept d e mine p t k = both_ways (not (passes_on d e)) (ap not p) (and_parts (not (passes_on d e)) (is_kept d mine) k).0

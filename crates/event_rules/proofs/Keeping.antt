@@ -90,30 +90,6 @@ given_shown ranks log l s shows d = (
     there : Carries s.hand (Give d) log → Carries (in_hand (part l log)) (Give d) log
     there k = subst (λ (h : Option Item). Carries h (Give d) log) shows.hand k
 
--- nothing or a task is in hand
-abbrev pub NoMessage : Option Item → Type 0
-NoMessage None = Unit {0}
-NoMessage (Some (Task r n)) = Unit {0}
-NoMessage _ = ⊥
-
--- a task may be submitted where it may be spawned
-pub spawned_shown : (ranks : ℕ) (log : List Mark) (l : LaneName) (s : LaneState) → ShowsLane log l s → (n : ℕ) (t : TaskName) → n ≡ count submissions l.rank log → NoMessage s.hand → SpawnsFreely log l s t ↔ Asks ranks log l (Submitted n t)
-spawned_shown ranks log l s shows n t number none = go s.hand refl none
-  where
-    hand : (h : Option Item) → s.hand ≡ h → in_hand (part l log) ≡ h
-    hand h i = sym shows.hand ∙ i
-
-    go : (h : Option Item) → s.hand ≡ h → NoMessage h → SpawnsFreely log l s t ↔ Asks ranks log l (Submitted n t)
-    go (Some (Message r m)) i none = absurd none
-    go None i none = rw (shows.own, shows.fence, shows.hand, hand None i) (
-      (λ a. ((number, a.0), (a.2, a.3, a.4), a.1)),
-      (λ a. (a.0.1, a.2, a.1.0, a.1.1, a.1.2)),
-    )
-    go (Some (Task r m)) i none = rw (shows.own, shows.fence, shows.hand, hand (Some (Task r m)) i) (
-      (λ a. ((number, a.0), (a.2, a.3, a.4), a.1)),
-      (λ a. (a.0.1, a.2, a.1.0, a.1.1, a.1.2)),
-    )
-
 -- a message may carry the due that the task in hand keeps
 pub give_shown : (log : List Mark) (l : LaneName) (s : LaneState) → ShowsLane log l s → (d : Label) → KeepsOwn s d ↔ MayCarry log l (Give d)
 give_shown log l s shows d = keeps_shown log l s shows d

@@ -71,7 +71,3 @@ receivable_is ranks log r le = (
         b.5,
       )),
 )
-
--- the first pass has no receipt
-pub not_receivable : (ranks : ℕ) (log : List Mark) (r : Receipt) → suc r.pass ≤ 2 → Receivable ranks log r → ⊥
-not_receivable ranks log r le b = let pass = b.1 in absurd (omega arith)
