@@ -18,7 +18,8 @@ use Rattle.tree_model.specs.Jobs.{JobData}
 use Rattle.job_lang.specs.declared.function_form.FunctionForm.{FunctionForm}
 use Rattle.job_lang.specs.declared.function_form.FunctionForm.TheVariants.{Const as ConstForm, Ramp as RampForm, Step as StepForm, Box as BoxForm, Hash as HashForm}
 use Rattle.job_lang.specs.Canonical.{function_words, command_words, header_words, command_text, canonical_text}
-use Rattle.job_lang.specs.Checks.{has_names, has_numbers, is_within_limits, is_factor, has_room, has_trees, has_forms, is_near_fence, may_follow, is_accepted, are_accepted, IsJob}
+use Rattle.job_lang.specs.Checks.{has_names, has_numbers, is_within_limits, has_room, has_trees, has_forms, is_near_fence, may_follow, is_accepted, are_accepted, IsJob}
+use Rattle.tree_model.specs.Signatures.{is_factor}
 use Rattle.job_lang.specs.Grammar.{name_at, function_at, function_of_form, header_of}
 use Rattle.job_words.specs.Lines.{Words, words, is_passed_over, line_of}
 use Rattle.job_words.specs.Names.{is_name}
@@ -193,6 +194,7 @@ level_small depth n shallow is =
 
 command-reads : (depth : ℕ) (c : Command) → nat_le depth max_depth ≡ true → has_names c ≡ true → has_numbers depth c ≡ true → Reads c
 command-reads depth (Project name p) shallow names numbers =
+    let is = (and_parts (is_name name) true names).0 in
     let parts = and_parts (fits depth p.function) (nat_le p.level depth && nat_le p.tolerance max_difference) numbers in
     let sizes = and_parts (nat_le p.level depth) (nat_le p.tolerance max_difference) parts.1 in
     let level = level_small depth p.level shallow sizes.0 in
@@ -201,58 +203,68 @@ command-reads depth (Project name p) shallow names numbers =
     let function = function-reads depth p.function parts.0 in
     let rest = codes "level" ∷ decimal p.level ∷ codes "tol" ∷ decimal p.tolerance ∷ [] in
     record {
-      words = (a_word (codes "project") refl refl, (name-word name names, function.words rest (a_word (codes "level") refl refl, (decimal-word p.level level, (a_word (codes "tol") refl refl, (decimal-word p.tolerance tolerance, tt))))));
-      command = λ depth before. project_reads depth before name (function_words p.function ++ rest) (decimal p.level) (decimal p.tolerance) function.form p.function p.level p.tolerance names (function.reads rest) function.function (number-decimal p.level level) (number-decimal p.tolerance tolerance);
+      words = (a_word (codes "project") refl refl, (name-word name is, function.words rest (a_word (codes "level") refl refl, (decimal-word p.level level, (a_word (codes "tol") refl refl, (decimal-word p.tolerance tolerance, tt))))));
+      command = λ depth before. project_reads depth before name (function_words p.function ++ rest) (decimal p.level) (decimal p.tolerance) function.form p.function p.level p.tolerance is (function.reads rest) function.function (number-decimal p.level level) (number-decimal p.tolerance tolerance);
       first = refl;
     }
 command-reads depth (Refine name level) shallow names numbers =
+    let is = (and_parts (is_name name) (is_name name && true) names).0 in
     let small = level_small depth level shallow numbers in
     record {
-      words = (a_word (codes "refine") refl refl, (name-word name names, (decimal-word level small, tt)));
-      command = λ depth before. refine_reads depth before name (decimal level) level names (number-decimal level small);
+      words = (a_word (codes "refine") refl refl, (name-word name is, (decimal-word level small, tt)));
+      command = λ depth before. refine_reads depth before name (decimal level) level is (number-decimal level small);
       first = refl;
     }
-command-reads depth (Compress name) shallow names numbers = record {
-  words = (a_word (codes "compress") refl refl, (name-word name names, tt));
-  command = λ depth before. compress_reads depth before name names;
-  first = refl;
-}
-command-reads depth (Reconstruct name) shallow names numbers = record {
-  words = (a_word (codes "reconstruct") refl refl, (name-word name names, tt));
-  command = λ depth before. reconstruct_reads depth before name names;
-  first = refl;
-}
+command-reads depth (Compress name) shallow names numbers =
+    let is = (and_parts (is_name name) (is_name name && true) names).0 in
+    record {
+      words = (a_word (codes "compress") refl refl, (name-word name is, tt));
+      command = λ depth before. compress_reads depth before name is;
+      first = refl;
+    }
+command-reads depth (Reconstruct name) shallow names numbers =
+    let is = (and_parts (is_name name) (is_name name && true) names).0 in
+    record {
+      words = (a_word (codes "reconstruct") refl refl, (name-word name is, tt));
+      command = λ depth before. reconstruct_reads depth before name is;
+      first = refl;
+    }
 command-reads depth (Add name left_factor left right_factor right) shallow names numbers =
-    let all = and_parts (is_name name) (is_name left && is_name right) names in
-    let terms = and_parts (is_name left) (is_name right) all.1 in
+    let all = and_parts (is_name name) (is_name left && (is_name right && true)) names in
+    let terms = and_parts (is_name left) (is_name right && true) all.1 in
+    let last = (and_parts (is_name right) true terms.1).0 in
     let factors = and_parts (is_factor left_factor) (is_factor right_factor) numbers in
     let a = factor_small left_factor factors.0 in
     let b = factor_small right_factor factors.1 in
     record {
-      words = (a_word (codes "add") refl refl, (name-word name all.0, (a_word (codes "=") refl refl, (signed-word left_factor a, (name-word left terms.0, (a_word (codes "+") refl refl, (signed-word right_factor b, (name-word right terms.1, tt))))))));
-      command = λ depth before. add_reads depth before name (signed_decimal left_factor) left (signed_decimal right_factor) right left_factor right_factor all.0 (number-signed left_factor a) terms.0 (number-signed right_factor b) terms.1;
+      words = (a_word (codes "add") refl refl, (name-word name all.0, (a_word (codes "=") refl refl, (signed-word left_factor a, (name-word left terms.0, (a_word (codes "+") refl refl, (signed-word right_factor b, (name-word right last, tt))))))));
+      command = λ depth before. add_reads depth before name (signed_decimal left_factor) left (signed_decimal right_factor) right left_factor right_factor all.0 (number-signed left_factor a) terms.0 (number-signed right_factor b) last;
       first = refl;
     }
 command-reads depth (Mul name left right) shallow names numbers =
-    let all = and_parts (is_name name) (is_name left && is_name right) names in
-    let terms = and_parts (is_name left) (is_name right) all.1 in
+    let all = and_parts (is_name name) (is_name left && (is_name right && true)) names in
+    let terms = and_parts (is_name left) (is_name right && true) all.1 in
+    let last = (and_parts (is_name right) true terms.1).0 in
     record {
-      words = (a_word (codes "mul") refl refl, (name-word name all.0, (a_word (codes "=") refl refl, (name-word left terms.0, (a_word (codes "*") refl refl, (name-word right terms.1, tt))))));
-      command = λ depth before. mul_reads depth before name left right all.0 terms.0 terms.1;
+      words = (a_word (codes "mul") refl refl, (name-word name all.0, (a_word (codes "=") refl refl, (name-word left terms.0, (a_word (codes "*") refl refl, (name-word right last, tt))))));
+      command = λ depth before. mul_reads depth before name left right all.0 terms.0 last;
       first = refl;
     }
 command-reads depth (Inner left right) shallow names numbers =
-    let terms = and_parts (is_name left) (is_name right) names in
+    let terms = and_parts (is_name left) (is_name right && true) names in
+    let last = (and_parts (is_name right) true terms.1).0 in
     record {
-      words = (a_word (codes "inner") refl refl, (name-word left terms.0, (name-word right terms.1, tt)));
-      command = λ depth before. inner_reads depth before left right terms.0 terms.1;
+      words = (a_word (codes "inner") refl refl, (name-word left terms.0, (name-word right last, tt)));
+      command = λ depth before. inner_reads depth before left right terms.0 last;
       first = refl;
     }
-command-reads depth (Print name) shallow names numbers = record {
-  words = (a_word (codes "print") refl refl, (name-word name names, tt));
-  command = λ depth before. print_reads depth before name names;
-  first = refl;
-}
+command-reads depth (Print name) shallow names numbers =
+    let is = (and_parts (is_name name) true names).0 in
+    record {
+      words = (a_word (codes "print") refl refl, (name-word name is, tt));
+      command = λ depth before. print_reads depth before name is;
+      first = refl;
+    }
 command-reads depth Fence shallow names numbers = record {
   words = (a_word (codes "fence") refl refl, tt);
   command = λ depth before. refl;

@@ -7,7 +7,7 @@ use Rattle.std.proofs.lemmas.List.Sums.{count_by-le-length, fold_push, sum_by-ap
 use Rattle.tree_model.specs.Commands.{Command}
 use Rattle.job_lang.specs.Checks.{has_room, has_trees, has_forms, is_near_fence, may_follow, is_print, is_fence, since_fence, max_prints, max_commands_before_fence, brings_tree, trees_behind, max_trees, max_commands}
 
-follows-room : (cs : List Command) (c : Command) → may_follow cs c ≡ true → has_room cs c ≡ true
+pub follows-room : (cs : List Command) (c : Command) → may_follow cs c ≡ true → has_room cs c ≡ true
 follows-room cs c follows = (and_parts (has_room cs c) (has_trees cs c && (has_forms cs c && is_near_fence cs c)) follows).0
 
 pub follows-prints : (cs : List Command) (c : Command) → may_follow cs c ≡ true → (not (is_print c) || nat_lt (count_by is_print cs) max_prints) ≡ true

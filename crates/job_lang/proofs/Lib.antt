@@ -8,3 +8,5 @@ pub mod PlanLaws
 pub mod KindLaws
 pub mod MeaningLaws
 pub mod FirstFaultLaws
+pub mod CommandLemmas
+pub mod FoundLemmas

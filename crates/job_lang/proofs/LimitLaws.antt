@@ -1,20 +1,23 @@
--- Numbers within their limits, tested one after another.
+-- A number that hasn't the size that a command keeps is out of its limits.
 use Rattle.std.proofs.Common.{◌≡◌, ℕ, ◌<◌, ◌≤◌, ◌^◌, Bool, true, false, List, refl, sym, ◌∙◌, ap, arith, ℤ, pos, negsuc, lit≤}
-use Rattle.std.specs.Prelude.{◌&&◌, nat_le, nat_lt, Option, Some, None, if◌then◌else◌}
+use Rattle.std.specs.Prelude.{◌&&◌, nat_le, nat_lt, Option, Some, None, Result, Ok, if◌then◌else◌}
 use Rattle.std.specs.Option.{option_map}
 use Rattle.std.proofs.lemmas.Bool.{and_parts, false_from_ne_true}
 use Rattle.std.proofs.lemmas.Bool.Decides.{nat_tests}
 use Rattle.std.proofs.Math.Nat.{pow-le-pow_right}
 use Rattle.tree_model.specs.Commands.{Command}
-use Rattle.tree_model.specs.Commands.Command.{Project as ProjectCommand}
+use Rattle.tree_model.specs.Commands.Command.{Project as ProjectCommand, Refine as RefineCommand}
 use Rattle.tree_model.specs.Functions.{Function, fits, max_depth, max_value, max_difference, is_value}
 use Rattle.tree_model.specs.Functions.Function.{Step as StepFunction, Box as BoxFunction, Hash as HashFunction}
+use Rattle.job_lang.specs.declared.fault_kind.FaultKind.{FaultKind}
+use Rattle.job_lang.specs.declared.fault_kind.FaultKind.TheVariants.{BeyondLimits, UnknownTree, WrongForm, FarFromFence}
 use Rattle.job_lang.specs.declared.function_form.FunctionForm.{FunctionForm}
 use Rattle.job_lang.specs.declared.function_form.FunctionForm.TheVariants.{Const, Ramp, Step, Box, Hash}
-use Rattle.job_lang.specs.Checks.{has_numbers}
-use Rattle.job_lang.specs.Grammar.{◌>>=◌, size_of, function_of_form}
-use Rattle.job_lang.specs.Grammar.Form.{ProjectForm}
-use Rattle.job_lang.specs.Limits.{size_up_to, max_32_bits, small_function, fitting_function, limited_command, limited_projection}
+use Rattle.job_lang.specs.Checks.{has_numbers, has_room, has_trees, has_forms, is_near_fence}
+use Rattle.job_lang.specs.Grammar.{◌>>=◌, Form, size_of, command_of_form, function_of_form}
+use Rattle.job_lang.specs.Grammar.Form.{ProjectForm, RefineForm, CompressForm, ReconstructForm, AddForm, MulForm, InnerForm, PrintForm, FenceForm}
+use Rattle.job_lang.specs.Limits.{size_up_to, max_8_bits, max_32_bits, small_function, small_command}
+use Rattle.job_lang.specs.Reading.{checked, read, checked_command}
 
 -- a number that is only refused later where it is above a limit may be refused at once
 sized : {A : Type 0} (limit : ℕ) (z : ℤ) (next : ℕ → Option A) → ((n : ℕ) → nat_le n limit ≡ false → next n ≡ None) → (size_up_to limit z >>= next) ≡ (size_of z >>= next)
@@ -40,6 +43,11 @@ then_none (Some x) next none = none x
 same_then : {A B : Type 0} (o : Option A) (f g : A → Option B) → ((x : A) → f x ≡ g x) → (o >>= f) ≡ (o >>= g)
 same_then None f g same = refl
 same_then (Some x) f g same = same x
+
+abbrev fitting_function : ℕ → FunctionForm → Option Function
+fitting_function depth form = do
+  f ← function_of_form form
+  if fits depth f then Some f else None
 
 abbrev fitting : ℕ → Function → Option Function
 fitting depth f = if fits depth f then Some f else None
@@ -98,7 +106,7 @@ modulus_unfit depth s m large =
     grind (arith, nat_tests))
 
 -- a function that fits has numbers of 32 bits
-pub fitting-small : (depth : ℕ) (form : FunctionForm) → fitting_function depth form ≡ (small_function form >>= fitting depth)
+fitting-small : (depth : ℕ) (form : FunctionForm) → fitting_function depth form ≡ (small_function form >>= fitting depth)
 fitting-small depth (Const c) = refl
 fitting-small depth (Ramp a b) = refl
 fitting-small depth (Step edge before behind) =
@@ -124,46 +132,110 @@ fitting-small depth (Hash seed modulus) =
     ∙ same_then (size_up_to max_32_bits seed) (λ s. (size_up_to max_32_bits modulus >>= λ m. Some (HashFunction s m)) >>= fitting depth) (λ s. size_up_to max_32_bits modulus >>= λ m. fitting depth (HashFunction s m)) (λ s. bound (size_up_to max_32_bits modulus) (λ m. Some (HashFunction s m)) (fitting depth))
     )
 
--- the answer to a function of 32 bits
-pub fitting-fits : (depth : ℕ) (form : FunctionForm) (f : Function) → Some f ≡ small_function form → fits depth f ≡ true → Some f ≡ fitting_function depth form
-fitting-fits depth form f is fit = sym (ap (λ b. if b then Some f else None) fit) ∙ ap (λ o. o >>= fitting depth) is ∙ sym (fitting-small depth form)
-
-pub fitting-unfit : (depth : ℕ) (form : FunctionForm) (f : Function) → Some f ≡ small_function form → fits depth f ≡ false → None ≡ fitting_function depth form
-fitting-unfit depth form f is fit = sym (ap (λ b. if b then Some f else None) fit) ∙ ap (λ o. o >>= fitting depth) is ∙ sym (fitting-small depth form)
-
-pub fitting-none : (depth : ℕ) (form : FunctionForm) → None ≡ small_function form → None ≡ fitting_function depth form
-fitting-none depth form is = ap (λ o. o >>= fitting depth) is ∙ sym (fitting-small depth form)
-
-abbrev projected : List ℕ → Function × ℕ × ℕ → Command
-projected name p = ProjectCommand name (record { function = p.0; level = p.1; tolerance = p.2 })
-
-abbrev all_of : Option Function → Option ℕ → Option ℕ → Option (Function × ℕ × ℕ)
-all_of function level tolerance = function >>= λ f. level >>= λ n. tolerance >>= λ t. Some (f, n, t)
+abbrev projected : List ℕ → Function → ℕ → ℕ → Command
+projected name f n t = ProjectCommand name (record { function = f; level = n; tolerance = t })
 
 abbrev some_if : {A : Type 0} → Bool → A → Option A
 some_if b x = if b then Some x else None
 
-three : (name : List ℕ) (f : Function) (n t : ℕ) (a b c : Bool) → some_if (a && (b && c)) (projected name (f, n, t)) ≡ option_map (projected name) (all_of (some_if a f) (some_if b n) (some_if c t))
-three name f n t true true true = refl
-three name f n t true true false = refl
-three name f n t true false c = refl
-three name f n t false b c = refl
+-- a command whose numbers are within their limits
+abbrev keep : ℕ → Command → Option Command
+keep depth c = some_if (has_numbers depth c) c
 
-two : (name : List ℕ) (f : Function) (n : ℕ) (a b : Bool) → None ≡ option_map (projected name) (all_of (some_if a f) (some_if b n) None)
-two name f n true true = refl
-two name f n true false = refl
-two name f n false b = refl
+level_large : (depth n : ℕ) → nat_le depth max_depth ≡ true → nat_le n max_8_bits ≡ false → nat_le n depth ≡ false
+level_large depth n shallow large =
+    false_from_ne_true (nat_le n depth) (λ is.
+    let deep : nat_le depth 16 ≡ true = shallow in
+    let above : nat_le n 255 ≡ false = large in
+    grind (arith, nat_tests))
 
-one : (name : List ℕ) (f : Function) (tolerance : Option ℕ) (a : Bool) → None ≡ option_map (projected name) (all_of (some_if a f) None tolerance)
-one name f tolerance true = refl
-one name f tolerance false = refl
+tolerance_large : (t : ℕ) → nat_le t max_32_bits ≡ false → nat_le t max_difference ≡ false
+tolerance_large t large =
+    false_from_ne_true (nat_le t max_difference) (λ is.
+    let within : nat_le t 33554432 ≡ true = is in
+    grind (arith, nat_tests))
 
-limited : (depth : ℕ) (name : List ℕ) (o : Option Function) (level tolerance : ℤ) → ((o >>= λ f. size_of level >>= λ n. size_of tolerance >>= λ t. Some (projected name (f, n, t))) >>= λ c. if has_numbers depth c then Some c else None) ≡ option_map (projected name) (all_of (o >>= fitting depth) (size_up_to depth level) (size_up_to max_difference tolerance))
-limited depth name None level tolerance = refl
-limited depth name (Some f) (negsuc n) tolerance = one name f (size_up_to max_difference tolerance) (fits depth f)
-limited depth name (Some f) (pos n) (negsuc t) = two name f n (fits depth f) (nat_le n depth)
-limited depth name (Some f) (pos n) (pos t) = three name f n t (fits depth f) (nat_le n depth) (nat_le t max_difference)
+middle_off : (a b c : Bool) (x : Command) → b ≡ false → some_if (a && (b && c)) x ≡ None
+middle_off true b c x is = ap (λ b. some_if (b && c) x) is
+middle_off false b c x is = refl
 
--- a projection's numbers, one after another
-pub limited_project : (depth : ℕ) (name : List ℕ) (function : FunctionForm) (level tolerance : ℤ) (p : Option (Function × ℕ × ℕ)) → p ≡ limited_projection depth function level tolerance → option_map (projected name) p ≡ limited_command depth (ProjectForm name function level tolerance)
-limited_project depth name function level tolerance p is = ap (option_map (projected name)) is ∙ sym (limited depth name (function_of_form function) level tolerance)
+last_off : (a b c : Bool) (x : Command) → c ≡ false → some_if (a && (b && c)) x ≡ None
+last_off true true c x is = ap (λ c. some_if c x) is
+last_off true false c x is = refl
+last_off false b c x is = refl
+
+abbrev nothing : ℕ → Option Command
+nothing n = None
+
+empty : (depth : ℕ) (o : Option ℕ) → None ≡ ((o >>= nothing) >>= keep depth)
+empty depth None = refl
+empty depth (Some n) = refl
+
+both : (depth : ℕ) (make : ℕ → ℕ → Command) (n t : ℕ) (a b : Bool) → (a ≡ false → keep depth (make n t) ≡ None) → (b ≡ false → keep depth (make n t) ≡ None) → keep depth (make n t) ≡ ((some_if a n >>= λ n. some_if b t >>= λ t. Some (make n t)) >>= keep depth)
+both depth make n t true true first second = refl
+both depth make n t true false first second = second refl
+both depth make n t false b first second = first refl
+
+-- the level and the tolerance of a projection
+sizes : (depth : ℕ) → nat_le depth max_depth ≡ true → (name : List ℕ) (f : Function) (level tolerance : ℤ) → ((size_of level >>= λ n. size_of tolerance >>= λ t. Some (projected name f n t)) >>= keep depth) ≡ ((size_up_to max_8_bits level >>= λ n. size_up_to max_32_bits tolerance >>= λ t. Some (projected name f n t)) >>= keep depth)
+sizes depth shallow name f (negsuc n) tolerance = refl
+sizes depth shallow name f (pos n) (negsuc t) = empty depth (some_if (nat_le n max_8_bits) n)
+sizes depth shallow name f (pos n) (pos t) =
+    both depth (projected name f) n t (nat_le n max_8_bits) (nat_le t max_32_bits)
+    (λ large. middle_off (fits depth f) (nat_le n depth) (nat_le t max_difference) (projected name f n t) (level_large depth n shallow large))
+    (λ large. last_off (fits depth f) (nat_le n depth) (nat_le t max_difference) (projected name f n t) (tolerance_large t large))
+
+-- a function that doesn't fit makes no command within its limits
+unfit_command : (depth : ℕ) (name : List ℕ) (level tolerance : ℤ) (f : Function) → fits depth f ≡ false → ((size_of level >>= λ n. size_of tolerance >>= λ t. Some (projected name f n t)) >>= keep depth) ≡ None
+unfit_command depth name (negsuc n) tolerance f fit = refl
+unfit_command depth name (pos n) (negsuc t) f fit = refl
+unfit_command depth name (pos n) (pos t) f fit = ap (λ b. some_if (b && (nat_le n depth && nat_le t max_difference)) (projected name f n t)) fit
+
+through : (depth : ℕ) (o : Option Function) (next : Function → Option Command) → ((f : Function) → fits depth f ≡ false → next f ≡ None) → (o >>= next) ≡ ((o >>= fitting depth) >>= next)
+through depth None next none = refl
+through depth (Some f) next none =
+    elim (fits depth f) as (λ b. fits depth f ≡ b → next f ≡ ((if b then Some f else None) >>= next)) [
+      | true ↦ λ fit. refl
+      | false ↦ λ fit. none f fit
+    ] refl
+
+-- of a form, the command whose numbers have the sizes that the code keeps is the same within its limits
+small-limited : (depth : ℕ) → nat_le depth max_depth ≡ true → (form : Form) → (command_of_form form >>= keep depth) ≡ (small_command form >>= keep depth)
+small-limited depth shallow (ProjectForm name function level tolerance) =
+    let rest : Function → Option Command = (λ f. size_of level >>= λ n. size_of tolerance >>= λ t. Some (projected name f n t)) in
+    let small : Function → Option Command = (λ f. size_up_to max_8_bits level >>= λ n. size_up_to max_32_bits tolerance >>= λ t. Some (projected name f n t)) in
+    bound (function_of_form function) rest (keep depth)
+    ∙ through depth (function_of_form function) (λ f. rest f >>= keep depth) (unfit_command depth name level tolerance)
+    ∙ ap (λ o. o >>= λ f. rest f >>= keep depth) (fitting-small depth function)
+    ∙ sym (through depth (small_function function) (λ f. rest f >>= keep depth) (unfit_command depth name level tolerance))
+    ∙ same_then (small_function function) (λ f. rest f >>= keep depth) (λ f. small f >>= keep depth) (λ f. sizes depth shallow name f level tolerance)
+    ∙ sym (bound (small_function function) small (keep depth))
+small-limited depth shallow (RefineForm name level) =
+    mapped (RefineCommand name) (size_of level) (keep depth)
+    ∙ sym (sized max_8_bits level (λ n. keep depth (RefineCommand name n)) (λ n large. ap (λ b. some_if b (RefineCommand name n)) (level_large depth n shallow large)))
+    ∙ sym (mapped (RefineCommand name) (size_up_to max_8_bits level) (keep depth))
+small-limited depth shallow (CompressForm name) = refl
+small-limited depth shallow (ReconstructForm name) = refl
+small-limited depth shallow (AddForm name left_factor left right_factor right) = refl
+small-limited depth shallow (MulForm name left right) = refl
+small-limited depth shallow (InnerForm left right) = refl
+small-limited depth shallow (PrintForm name) = refl
+small-limited depth shallow FenceForm = refl
+
+abbrev tests : Bool → Bool → Bool → Bool → Bool → Command → Result Command FaultKind
+tests a b t f n c = checked BeyondLimits (a && b) (checked UnknownTree t (checked WrongForm f (checked FarFromFence n (Ok c))))
+
+by_limits : (a b t f n : Bool) (c : Command) (next : Command → Result Command FaultKind) → next c ≡ tests a b t f n c → next c ≡ read BeyondLimits (some_if a c) next
+by_limits true b t f n c next is = refl
+by_limits false b t f n c next is = is
+
+kept : (depth : ℕ) (before : List Command) (o : Option Command) → read BeyondLimits o (checked_command depth before) ≡ read BeyondLimits (o >>= keep depth) (checked_command depth before)
+kept depth before None = refl
+kept depth before (Some c) = by_limits (has_numbers depth c) (has_room before c) (has_trees before c) (has_forms before c) (is_near_fence before c) c (checked_command depth before) refl
+
+-- the reading of a form, by the command whose numbers have these sizes
+pub form-read : (depth : ℕ) (before : List Command) (form : Form) → nat_le depth max_depth ≡ true → read BeyondLimits (command_of_form form) (checked_command depth before) ≡ read BeyondLimits (small_command form) (checked_command depth before)
+form-read depth before form shallow =
+    kept depth before (command_of_form form)
+    ∙ ap (λ o. read BeyondLimits o (checked_command depth before)) (small-limited depth shallow form)
+    ∙ sym (kept depth before (small_command form))

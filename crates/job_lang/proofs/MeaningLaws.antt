@@ -7,15 +7,16 @@ use Rattle.std.proofs.lemmas.Bool.{and_parts}
 use Rattle.std.proofs.lemmas.Bool.Decides.{nat_tests}
 use Rattle.std.proofs.lemmas.List.{take_at}
 use Rattle.std.proofs.Math.Seq.{get_or-append_seam}
-use Rattle.tree_model.specs.Commands.{Command, writes}
+use Rattle.tree_model.specs.Commands.{Command}
 use Rattle.tree_model.specs.Commands.Command.{Project, Refine, Compress, Reconstruct, Add, Mul, Inner, Print, Fence}
 use Rattle.tree_model.specs.Jobs.{JobData, command_lines}
 use Rattle.tree_model.specs.Nodes.{Form}
 use Rattle.tree_model.specs.Nodes.Form.{Reconstructed, Compressed}
 use Rattle.tree_model.specs.OperationTexts.{printed_lines, inner_line}
+use Rattle.tree_model.specs.Signatures.{writes, written_form}
 use Rattle.tree_model.specs.Trees.{Tree}
 use Rattle.tree_model.specs.Versions.{Version, Versions, no_versions, same_form, tree_in, read, two_trees, read_two, written, newer, after, versions_behind}
-use Rattle.job_lang.specs.Checks.{IsJob, form_after, form_behind, has_forms, has_room, has_trees, is_accepted, are_accepted, is_near_fence, is_within_limits, is_written, may_follow, names_read, needed_form, suits, written_form}
+use Rattle.job_lang.specs.Checks.{IsJob, form_after, form_behind, has_forms, has_room, has_trees, is_accepted, are_accepted, is_near_fence, is_within_limits, is_written, may_follow, names_read, needed_form, suits}
 use Rattle.job_lang.specs.Meaning.{HasMeaning, reads_trees, tree_read, version_form, writes_lines}
 use Rattle.job_lang.proofs.CheckLaws.{are_accepted-at}
 use Rattle.job_lang.proofs.WriterLaws.{form_behind-push, is_written-form, written_form-writes}

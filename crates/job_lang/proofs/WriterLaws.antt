@@ -2,7 +2,7 @@
 use Rattle.std.proofs.Common.{◌≡◌, ℕ, zero, suc, ◌+◌, ◌<◌, Bool, true, false, List, [], ◌∷◌, ◌++◌, length, get_or, set, refl, sym, ◌∙◌, ap, subst, arith, length-append}
 use Rattle.std.specs.Prelude.{All, nat_lt, ◌&&◌, ◌||◌, count_by, not, position, Option, Some, None, is_some, if◌then◌else◌}
 use Rattle.std.specs.List.{fold, list_any}
-use Rattle.std.specs.Option.{option_map_or}
+use Rattle.std.specs.Option.{option_map, option_map_or}
 use Rattle.std.specs.Str.{bytes_eq}
 use Rattle.std.proofs.Math.Bool.{or-false}
 use borrow.Author.Tests.{ltb-true}
@@ -11,10 +11,11 @@ use Rattle.std.proofs.lemmas.List.Quantifiers.{position-Some}
 use Rattle.std.proofs.lemmas.List.{get_or_push, get_or_append_left}
 use Rattle.std.proofs.lemmas.List.Sums.{fold_push}
 use Rattle.std.proofs.lemmas.Slice.Eq.{bytes_eq-Decides}
-use Rattle.tree_model.specs.Commands.{Command, writes}
-use Rattle.tree_model.specs.Commands.Command.{Project, Refine, Compress, Reconstruct, Add, Mul, Inner, Print, Fence}
+use Rattle.tree_model.specs.Commands.{Command}
+use Rattle.tree_model.specs.Signatures.{Target, signature_of, writes, written_form, written_name}
+use Rattle.tree_model.specs.Commands.Command.{Fence}
 use Rattle.tree_model.specs.Nodes.{Form}
-use Rattle.job_lang.specs.Checks.{written_name, written_form, form_after, form_behind, is_written, brings_tree, trees_behind, has_room, is_print, max_commands, max_trees, max_prints}
+use Rattle.job_lang.specs.Checks.{form_after, form_behind, is_written, brings_tree, trees_behind, has_room, is_print, max_commands, max_trees, max_prints}
 use Rattle.job_lang.specs.Versions.{version_from, version_behind}
 use Rattle.job_lang.specs.Writers.{command_at, told_at, form_at, with_writer, AreLastWriters}
 use Rattle.job_lang.proofs.CheckLaws.{trees_behind-append}
@@ -25,15 +26,7 @@ same_name a b is = (bytes_eq-Decides a b).0 is
 
 -- a command writes the tree of the name that it writes
 pub writes-name : (name : List ℕ) (c : Command) → writes name c ≡ option_map_or (bytes_eq name) (written_name c) false
-writes-name name (Project written p) = refl
-writes-name name (Refine written level) = refl
-writes-name name (Compress written) = refl
-writes-name name (Reconstruct written) = refl
-writes-name name (Add written a left b right) = refl
-writes-name name (Mul written left right) = refl
-writes-name name (Inner left right) = refl
-writes-name name (Print printed) = refl
-writes-name name Fence = refl
+writes-name name c = refl
 
 by_name : (name n : List ℕ) (o : Option (List ℕ)) → option_map_or (bytes_eq n) o false ≡ true → option_map_or (bytes_eq name) o false ≡ bytes_eq name n
 by_name name n None is = cc
@@ -43,16 +36,12 @@ by_name name n (Some m) is = ap (bytes_eq name) (sym (same_name n m is))
 writes-as : (name n : List ℕ) (c : Command) → writes n c ≡ true → writes name c ≡ bytes_eq name n
 writes-as name n c is = writes-name name c ∙ by_name name n (written_name c) (sym (writes-name n c) ∙ is)
 
+target_form : (name : List ℕ) (target : Option Target) → option_map_or (bytes_eq name) (option_map (λ t. t.name) target) false ≡ true → is_some (option_map (λ t. t.form) target) ≡ true
+target_form name None is = cc
+target_form name (Some t) is = refl
+
 pub written_form-writes : (name : List ℕ) (c : Command) → writes name c ≡ true → is_some (written_form c) ≡ true
-written_form-writes name (Project written p) is = refl
-written_form-writes name (Refine written level) is = refl
-written_form-writes name (Compress written) is = refl
-written_form-writes name (Reconstruct written) is = refl
-written_form-writes name (Add written a left b right) is = refl
-written_form-writes name (Mul written left right) is = refl
-written_form-writes name (Inner left right) is = cc
-written_form-writes name (Print printed) is = cc
-written_form-writes name Fence is = cc
+written_form-writes name c is = target_form name (signature_of c).writes is
 
 -- what is known of the places but the first
 All-rest : (n w : ℕ) (ws : List ℕ) → All (λ p. p < n) (w ∷ ws) → All (λ p. p < n) ws
@@ -167,8 +156,12 @@ written_or name form (c ∷ cs) =
 pub is_written-form : (cs : List Command) (name : List ℕ) → is_written cs name ≡ is_some (form_behind cs name)
 is_written-form cs name = sym (or-false (list_any (writes name) cs)) ∙ written_or name None cs
 
+brings-name : (cs : List Command) (target : Option Target) → option_map_or (λ t. not (is_written cs t.name)) target false ≡ option_map_or (λ name. not (is_written cs name)) (option_map (λ t. t.name) target) false
+brings-name cs None = refl
+brings-name cs (Some t) = refl
+
 brought : (cs : List Command) (n : List ℕ) (c : Command) → written_name c ≡ Some n → brings_tree cs c ≡ not (is_some (form_behind cs n))
-brought cs n c is = ap (λ o. option_map_or (λ name. not (is_written cs name)) o false) is ∙ ap not (is_written-form cs n)
+brought cs n c is = brings-name cs (signature_of c).writes ∙ ap (λ o. option_map_or (λ name. not (is_written cs name)) o false) is ∙ ap not (is_written-form cs n)
 
 writer : (n : List ℕ) (c : Command) → written_name c ≡ Some n → writes n c ≡ true
 writer n c is = writes-name n c ∙ ap (λ o. option_map_or (bytes_eq n) o false) is ∙ (bytes_eq-Decides n n).1 refl
@@ -207,7 +200,7 @@ not_written name c is = writes-name name c ∙ ap (λ o. option_map_or (bytes_eq
 pub AreLastWriters-same : (cs : List Command) (ws : List ℕ) (c : Command) → AreLastWriters cs ws → written_name c ≡ None → AreLastWriters (cs ++ c ∷ []) ws
 AreLastWriters-same cs ws c before is = record {
   within = λ k d below. let old = before.within k d below in omega (arith, old, length-append cs (c ∷ []));
-  count = let none = ap (λ o. option_map_or (λ name. not (is_written cs name)) o false) is in omega (arith, before.count, trees_behind-append [] cs c, ap one_where none);
+  count = let none = brings-name cs (signature_of c).writes ∙ ap (λ o. option_map_or (λ name. not (is_written cs name)) o false) is in omega (arith, before.count, trees_behind-append [] cs c, ap one_where none);
   forms = λ name.
       form_behind-push cs c name
       ∙ ap (λ b. if b then written_form c else form_behind cs name) (not_written name c is)

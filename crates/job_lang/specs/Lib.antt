@@ -3,6 +3,8 @@ pub mod Checks
 pub mod Reading
 pub mod Data
 pub mod Reads
+pub mod SignatureData
+pub mod Found
 pub mod Slices
 pub mod Limits
 pub mod Code

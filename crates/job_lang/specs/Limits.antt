@@ -1,11 +1,12 @@
--- Forms whose numbers are within their limits.
+-- Commands of forms whose numbers have the sizes that the code keeps. A number that hasn't is out of its limits at any depth.
 use Rattle.std.specs.Prelude.{ℕ, ℤ, Option, Some, None, nat_le, if◌then◌else◌}
 use Rattle.std.specs.Option.{option_map}
 use Rattle.tree_model.specs.Commands.{Command}
-use Rattle.tree_model.specs.Functions.{Function, fits, max_difference}
+use Rattle.tree_model.specs.Commands.Command.{Project, Refine, Compress, Reconstruct, Add, Mul, Inner, Print, Fence}
+use Rattle.tree_model.specs.Functions.{Function}
 use Rattle.tree_model.specs.Functions.Function.{Const as ConstFunction, Ramp as RampFunction, Step as StepFunction, Box as BoxFunction, Hash as HashFunction}
-use Rattle.job_lang.specs.Grammar.{◌>>=◌, Form, size_of, command_of_form, function_of_form}
-use Rattle.job_lang.specs.Checks.{has_numbers}
+use Rattle.job_lang.specs.Grammar.{◌>>=◌, Form, size_of}
+use Rattle.job_lang.specs.Grammar.Form.{ProjectForm, RefineForm, CompressForm, ReconstructForm, AddForm, MulForm, InnerForm, PrintForm, FenceForm}
 use Rattle.job_lang.specs.declared.function_form.FunctionForm.{FunctionForm}
 use Rattle.job_lang.specs.declared.function_form.FunctionForm.TheVariants.{Const, Ramp, Step, Box, Hash}
 
@@ -15,7 +16,10 @@ size_up_to limit number = do
   n ← size_of number
   if nat_le n limit then Some n else None
 
--- the largest number of 32 bits
+-- the largest numbers of 8 and of 32 bits
+abbrev pub max_8_bits : ℕ
+max_8_bits = 255
+
 abbrev pub max_32_bits : ℕ
 max_32_bits = 4294967295
 
@@ -33,22 +37,18 @@ small_function (Hash seed modulus) = do
   m ← size_up_to max_32_bits modulus
   Some (HashFunction s m)
 
--- the function of a form that fits a depth
-abbrev pub fitting_function : ℕ → FunctionForm → Option Function
-fitting_function depth form = do
-  f ← function_of_form form
-  if fits depth f then Some f else None
-
--- the function, the level and the tolerance of a projection, where they are within their limits
-abbrev pub limited_projection : ℕ → FunctionForm → ℤ → ℤ → Option (Function × ℕ × ℕ)
-limited_projection depth function level tolerance = do
-  f ← fitting_function depth function
-  n ← size_up_to depth level
-  t ← size_up_to max_difference tolerance
-  Some (f, n, t)
-
--- the command of a form whose numbers are within their limits at a depth
-abbrev pub limited_command : ℕ → Form → Option Command
-limited_command depth form = do
-  command ← command_of_form form
-  if has_numbers depth command then Some command else None
+-- the command of a form whose numbers have these sizes
+abbrev pub small_command : Form → Option Command
+small_command (ProjectForm name function level tolerance) = do
+  f ← small_function function
+  n ← size_up_to max_8_bits level
+  t ← size_up_to max_32_bits tolerance
+  Some (Project name (record { function = f; level = n; tolerance = t }))
+small_command (RefineForm name level) = option_map (Refine name) (size_up_to max_8_bits level)
+small_command (CompressForm name) = Some (Compress name)
+small_command (ReconstructForm name) = Some (Reconstruct name)
+small_command (AddForm name left_factor left right_factor right) = Some (Add name left_factor left right_factor right)
+small_command (MulForm name left right) = Some (Mul name left right)
+small_command (InnerForm left right) = Some (Inner left right)
+small_command (PrintForm name) = Some (Print name)
+small_command FenceForm = Some Fence

@@ -4,12 +4,13 @@ use Rattle.std.specs.Prelude.{◌≡◌, ℕ, Bool, false, not, ◌&&◌, nat_lt
 use Rattle.std.specs.List.{list_all}
 use Rattle.std.specs.Option.{option_map, option_map_or}
 use Rattle.std.specs.Str.{bytes_eq}
-use Rattle.tree_model.specs.Commands.{Command, writes}
+use Rattle.tree_model.specs.Commands.{Command}
 use Rattle.tree_model.specs.Jobs.{JobData, command_lines}
 use Rattle.tree_model.specs.Nodes.{Form}
+use Rattle.tree_model.specs.Signatures.{writes, written_form, written_name}
 use Rattle.tree_model.specs.Trees.{Tree}
 use Rattle.tree_model.specs.Versions.{Version, Versions, read, read_two, written, versions_behind}
-use Rattle.job_lang.specs.Checks.{IsJob, form_behind, is_fence, names_read, needed_form, written_form, written_name}
+use Rattle.job_lang.specs.Checks.{IsJob, form_behind, is_fence, names_read, needed_form}
 
 -- the form of a version, where there is one
 abbrev pub version_form : Option Version → Option Form

@@ -2,12 +2,13 @@
 -- command that writes it; commands are numbered from 1, and so are fences.
 use Rattle.std.specs.Prelude.{ℕ, ◌+◌, Bool, ◌&&◌, nat_le, List, [], ◌∷◌, ◌++◌, length, count_by, if◌then◌else◌}
 use Rattle.std.specs.Option.{option_map}
-use Rattle.tree_model.specs.Commands.{Command, writes}
+use Rattle.tree_model.specs.Commands.{Command}
+use Rattle.tree_model.specs.Signatures.{Signature, signature_of, writes}
 use Rattle.tree_model.specs.Jobs.{JobData}
 use Rattle.job_lang.specs.declared.sources.Sources.{Sources}
 use Rattle.job_lang.specs.declared.sources.Sources.TheVariants.{Nothing, One, Two}
 use Rattle.job_lang.specs.declared.step.Step.{Step}
-use Rattle.job_lang.specs.Checks.{is_fence, names_read, written_name}
+use Rattle.job_lang.specs.Checks.{is_fence}
 
 -- the number of the last of these commands that writes a name, where the first has this number; `last` where none does
 abbrev pub version_from : ℕ → ℕ → List Command → List ℕ → ℕ
@@ -25,12 +26,15 @@ sources_of before (name ∷ []) = One (version_behind before name)
 sources_of before (left ∷ right ∷ more) = Two (version_behind before left) (version_behind before right)
 
 -- what a command reads and writes behind those before it, and the fence that ends it: the next, or itself
-abbrev pub step_of : List Command → Command → Step
-step_of before c = record {
-  reads = sources_of before (names_read c);
-  writes = option_map (λ name. length before + 1) (written_name c);
+abbrev pub step_for : List Command → Signature → Step
+step_for before s = record {
+  reads = sources_of before s.reads;
+  writes = option_map (λ target. length before + 1) s.writes;
   fence = count_by is_fence before + 1;
 }
+
+abbrev pub step_of : List Command → Command → Step
+step_of before c = step_for before (signature_of c)
 
 abbrev pub plan_from : List Command → List Command → List Step
 plan_from before [] = []

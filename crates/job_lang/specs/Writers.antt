@@ -1,9 +1,10 @@
 -- The last writer of each tree, as places of a list of commands.
 use Rattle.std.specs.Prelude.{◌≡◌, ℕ, ◌+◌, ◌<◌, List, [], ◌∷◌, length, get_or, All, Option, None, if◌then◌else◌}
-use Rattle.tree_model.specs.Commands.{Command, writes}
+use Rattle.tree_model.specs.Commands.{Command}
+use Rattle.tree_model.specs.Signatures.{writes, written_form}
 use Rattle.tree_model.specs.Commands.Command.{Fence}
 use Rattle.tree_model.specs.Nodes.{Form}
-use Rattle.job_lang.specs.Checks.{written_form, form_behind, trees_behind}
+use Rattle.job_lang.specs.Checks.{form_behind, trees_behind}
 use Rattle.job_lang.specs.Versions.{version_behind}
 
 -- the command at a place; behind the last there is a fence, which writes nothing

@@ -1,9 +1,12 @@
 ghost use Rattle.std.specs.Prelude.{◌≡◌, ℕ, List, [], ◌∷◌, ◌++◌, ◌+◌, ◌≤◌, true, IfOk, OnOk, OnErr};
 ghost use Rattle.tree_model.specs.Functions.{max_depth};
 ghost use Rattle.job_lang.specs.declared.fault.JobFault.{JobFault as FaultData};
-ghost use Rattle.job_lang.specs.Checks.{has_names, is_accepted};
+ghost use Rattle.job_lang.specs.Checks.{is_accepted};
 ghost use Rattle.job_words.specs.Lines.{words as line_words};
-ghost use Rattle.job_lang.specs.Reading.{checked_command, command_of_line, command_of_words, commands_from};
+ghost use Rattle.job_lang.specs.Code.{form_data};
+ghost use Rattle.job_lang.specs.declared.fault_kind.FaultKind.TheVariants.{BeyondLimits};
+ghost use Rattle.job_lang.specs.Grammar.{command_of_form};
+ghost use Rattle.job_lang.specs.Reading.{checked_command, command_of_line, command_of_words, commands_from, read};
 ghost use Rattle.job_lang.specs.Slices.{texts};
 
 use crate::command::Command;
@@ -68,14 +71,17 @@ impl Accepted {
         Ok(())
     }
 
-    // A command with names, or the lowest kind of fault that it has behind the others.
-    fn checked(&self, command: Command) -> Result<Command, FaultKind>
-        requires { has_names (data_of command) ≡ true }
+    // The command of a form, or the lowest kind of fault that it has behind the others.
+    fn command_of_form(&self, form: &Form) -> Result<Command, FaultKind>
         ensures command { command_read result
-            ≡ checked_command self.now.depth self.now.commands (data_of command) }
+            ≡ read BeyondLimits (command_of_form (form_data form.now)) (checked_command self.now.depth self.now.commands) }
         ensures accepted { IfOk result (λ c. is_accepted self.now.depth self.now.commands (data_of c) ≡ true) }
     {
-        let fault = self.history.fault_of(self.depth, &self.commands, &command);
+        let depth = self.depth;
+        let Some(command) = form.to_command() else {
+            return Err(FaultKind::BeyondLimits);
+        };
+        let fault = self.history.fault_of(depth, &self.commands, &command);
         match fault {
             Some(kind) => Err(kind),
             None => Ok(command),
@@ -83,48 +89,34 @@ impl Accepted {
     }
 
     // The command that a line's words say, or the lowest kind of fault that it has behind the others.
-    fn command_of(
-        &self,
-        alloc: Global,
-        words: &[&[u8]],
-    ) -> Result<Result<Command, FaultKind>, AllocError>
-        ensures command { IfOk result (λ r. command_read r
-            ≡ command_of_words self.now.depth self.now.commands (texts words.now)) }
-        ensures accepted { IfOk result (λ r. IfOk r (λ c.
-            is_accepted self.now.depth self.now.commands (data_of c) ≡ true)) }
+    fn command_of(&self, words: &[&[u8]]) -> Result<Command, FaultKind>
+        ensures command { command_read result
+            ≡ command_of_words self.now.depth self.now.commands (texts words.now) }
+        ensures accepted { IfOk result (λ c. is_accepted self.now.depth self.now.commands (data_of c) ≡ true) }
     {
         let Some((first, rest)) = words.split_first() else {
-            return Ok(Err(FaultKind::UnknownCommand));
+            return Err(FaultKind::UnknownCommand);
         };
         let Some(verb) = Verb::of_word(first) else {
-            return Ok(Err(FaultKind::UnknownCommand));
+            return Err(FaultKind::UnknownCommand);
         };
         let Some(form) = Form::of_words(verb, rest) else {
-            return Ok(Err(FaultKind::WrongWords));
+            return Err(FaultKind::WrongWords);
         };
-        let Some(command) = form.to_command(alloc, self.depth)? else {
-            return Ok(Err(FaultKind::BeyondLimits));
-        };
-        Ok(self.checked(command))
+        self.command_of_form(&form)
     }
 
     // The command that a line says that isn't passed over, or the lowest kind of fault that it has behind the others.
-    fn command_of_line(
-        &self,
-        alloc: Global,
-        line: &[u8],
-        words: &[&[u8]],
-    ) -> Result<Result<Command, FaultKind>, AllocError>
+    fn command_of_line(&self, line: &[u8], words: &[&[u8]]) -> Result<Command, FaultKind>
         requires { texts words.now ≡ line_words line.now }
-        ensures command { IfOk result (λ r. command_read r
-            ≡ command_of_line self.now.depth self.now.commands line.now) }
-        ensures accepted { IfOk result (λ r. IfOk r (λ c.
-            is_accepted self.now.depth self.now.commands (data_of c) ≡ true)) }
+        ensures command { command_read result
+            ≡ command_of_line self.now.depth self.now.commands line.now }
+        ensures accepted { IfOk result (λ c. is_accepted self.now.depth self.now.commands (data_of c) ≡ true) }
     {
         if !has_allowed_bytes(line) {
-            return Ok(Err(FaultKind::ForeignByte));
+            return Err(FaultKind::ForeignByte);
         }
-        self.command_of(alloc, words)
+        self.command_of(words)
     }
 
     /// Takes the line of a number: it is passed over, or its command is added. An error leaves the commands as they
@@ -146,7 +138,7 @@ impl Accepted {
         if is_passed_over(&words) {
             return Ok(());
         }
-        match self.command_of_line(alloc, line, &words)? {
+        match self.command_of_line(line, &words) {
             Ok(command) => {
                 self.push(command)?;
                 Ok(())

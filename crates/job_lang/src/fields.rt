@@ -22,7 +22,7 @@ pub fn no_more(words: &[&[u8]]) -> Option<()>
 }
 
 /// A name, and the words behind it.
-pub fn name_at<'a, 'b>(words: &'b [&'a [u8]]) -> Option<(Name<'a>, &'b [&'a [u8]])>
+pub fn name_at<'a, 'b>(words: &'b [&'a [u8]]) -> Option<(Name, &'b [&'a [u8]])>
     ensures { name_read result ≡ name_at (texts words.now) }
 {
     let (first, rest) = words.split_first()?;
@@ -31,7 +31,7 @@ pub fn name_at<'a, 'b>(words: &'b [&'a [u8]]) -> Option<(Name<'a>, &'b [&'a [u8]
 }
 
 /// A name, behind which no word is left.
-pub fn one_name<'a>(words: &[&'a [u8]]) -> Option<Name<'a>>
+pub fn one_name(words: &[&[u8]]) -> Option<Name>
     ensures { name_only result ≡ one_name (texts words.now) }
 {
     let (name, words) = name_at(words)?;
@@ -40,7 +40,7 @@ pub fn one_name<'a>(words: &[&'a [u8]]) -> Option<Name<'a>>
 }
 
 /// Two names, behind which no word is left.
-pub fn two_names<'a>(words: &[&'a [u8]]) -> Option<(Name<'a>, Name<'a>)>
+pub fn two_names(words: &[&[u8]]) -> Option<(Name, Name)>
     ensures { names_only result ≡ two_names (texts words.now) }
 {
     let (left, words) = name_at(words)?;

@@ -14,49 +14,49 @@ use job_words::Name;
 
 /// A line of a job as its words say it, with any numbers.
 #[derive(Clone, Copy)]
-pub enum Form<'a> {
+pub enum Form {
     /// `project NAME FUNC level N tol T`
     Project {
-        name: Name<'a>,
+        name: Name,
         function: FunctionForm,
         level: i64,
         tolerance: i64,
     },
     /// `refine NAME N`
     Refine {
-        name: Name<'a>,
+        name: Name,
         level: i64,
     },
     /// `compress NAME`
     Compress {
-        name: Name<'a>,
+        name: Name,
     },
     /// `reconstruct NAME`
     Reconstruct {
-        name: Name<'a>,
+        name: Name,
     },
     /// `add NAME = A NAME + B NAME`
     Add {
-        name: Name<'a>,
+        name: Name,
         left_factor: i64,
-        left: Name<'a>,
+        left: Name,
         right_factor: i64,
-        right: Name<'a>,
+        right: Name,
     },
     /// `mul NAME = NAME * NAME`
     Mul {
-        name: Name<'a>,
-        left: Name<'a>,
-        right: Name<'a>,
+        name: Name,
+        left: Name,
+        right: Name,
     },
     /// `inner NAME NAME`
     Inner {
-        left: Name<'a>,
-        right: Name<'a>,
+        left: Name,
+        right: Name,
     },
     /// `print NAME`
     Print {
-        name: Name<'a>,
+        name: Name,
     },
     /// `fence`
     Fence,
@@ -81,11 +81,11 @@ pub fn header_of(words: &[&[u8]]) -> Option<u8>
     }
 }
 
-impl<'a> Form<'a> {
+impl Form {
     ghost use Rattle.job_lang.specs.Code.{form_data};
 
     // `NAME FUNC level N tol T`
-    fn project_of(words: &[&'a [u8]]) -> Option<Form<'a>>
+    fn project_of(words: &[&[u8]]) -> Option<Form>
         ensures { option_map form_data result ≡ project_of (texts words.now) }
     {
         let (name, words) = name_at(words)?;
@@ -104,7 +104,7 @@ impl<'a> Form<'a> {
     }
 
     // `NAME N`
-    fn refine_of(words: &[&'a [u8]]) -> Option<Form<'a>>
+    fn refine_of(words: &[&[u8]]) -> Option<Form>
         ensures { option_map form_data result ≡ refine_of (texts words.now) }
     {
         let (name, words) = name_at(words)?;
@@ -114,7 +114,7 @@ impl<'a> Form<'a> {
     }
 
     // `NAME = A NAME + B NAME`
-    fn add_of(words: &[&'a [u8]]) -> Option<Form<'a>>
+    fn add_of(words: &[&[u8]]) -> Option<Form>
         ensures { option_map form_data result ≡ add_of (texts words.now) }
     {
         let (name, words) = name_at(words)?;
@@ -135,7 +135,7 @@ impl<'a> Form<'a> {
     }
 
     // `NAME = NAME * NAME`
-    fn mul_of(words: &[&'a [u8]]) -> Option<Form<'a>>
+    fn mul_of(words: &[&[u8]]) -> Option<Form>
         ensures { option_map form_data result ≡ mul_of (texts words.now) }
     {
         let (name, words) = name_at(words)?;
@@ -148,7 +148,7 @@ impl<'a> Form<'a> {
     }
 
     /// The form of the words behind a verb. None exactly where they aren't in its form.
-    pub fn of_words(verb: Verb, words: &[&'a [u8]]) -> Option<Form<'a>>
+    pub fn of_words(verb: Verb, words: &[&[u8]]) -> Option<Form>
         ensures { option_map form_data result ≡ form_of verb (texts words.now) }
     {
         match verb {

@@ -32,13 +32,14 @@ pub fn size_up_to(limit: u64, number: i64) -> Option<u64>
     if size <= limit { Some(size) } else { None }
 }
 
-const MAX_SIZE: u64 = 4_294_967_295;
+/// The largest number of 32 bits.
+pub const MAX_SIZE: u64 = 4_294_967_295;
 
 impl FunctionForm {
-    ghost use Rattle.job_lang.specs.Limits.{fitting_function, small_function};
+    ghost use Rattle.job_lang.specs.Limits.{small_function};
 
-    // The function, where edges, seed and modulus have at most 32 bits and aren't negative.
-    fn to_func(&self) -> Option<Func>
+    /// The function, where edges, seed and modulus have at most 32 bits and aren't negative.
+    pub fn to_func(&self) -> Option<Func>
         ensures { option_map function_of result ≡ small_function self.now }
     {
         match *self {
@@ -58,18 +59,6 @@ impl FunctionForm {
                 let modulus = size_up_to(MAX_SIZE, modulus)?;
                 Some(Func::Hash(seed as u32, modulus as u32))
             }
-        }
-    }
-
-    /// The function that fits a depth. None exactly where it doesn't.
-    pub fn fitting(&self, depth: u8) -> Option<Func>
-        ensures { option_map function_of result ≡ fitting_function depth self.now }
-    {
-        let function = self.to_func()?;
-        if function.fits(depth) {
-            Some(function)
-        } else {
-            None
         }
     }
 }

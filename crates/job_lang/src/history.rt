@@ -1,13 +1,21 @@
-ghost use Rattle.std.specs.Prelude.{◌≡◌, ◌+◌, ◌<◌, ◌≤◌, length, ◌||◌, [], ◌∷◌, ◌++◌, map, nat_lt, not, take, true, if◌then◌else◌};
+//! What the check of one more command needs of the commands before it.
+ghost use Rattle.std.specs.Prelude.{◌≡◌, ◌+◌, ◌<◌, ◌≤◌, length, ◌&&◌, ◌||◌, [], ◌∷◌, ◌++◌, Ok, map, nat_lt, not, take, true, if◌then◌else◌};
 ghost use Rattle.std.specs.Option.{option_map};
-ghost use Rattle.job_lang.specs.Checks.{brings_tree, form_behind, has_forms, has_room, has_trees, is_accepted, is_fence, is_near_fence, is_print, is_written, max_commands_before_fence, max_prints, may_follow, suits, trees_behind};
+ghost use Rattle.tree_model.specs.Commands.{Command as CommandData};
+ghost use Rattle.job_lang.specs.declared.fault_kind.FaultKind.TheVariants.{BeyondLimits, FarFromFence, UnknownTree, WrongForm};
+ghost use Rattle.job_lang.specs.Checks.{brings, form_behind, has_room, has_room_for, is_accepted, is_written, max_commands_before_fence, max_prints, may_follow, trees_behind};
 ghost use Rattle.job_lang.specs.Data.{data_of, form_of};
-ghost use Rattle.job_lang.specs.Reading.{checked_command, unless_fault};
-ghost use Rattle.job_lang.specs.Versions.{step_of, version_behind};
+ghost use Rattle.job_lang.specs.Found.{forms_in};
+ghost use Rattle.job_lang.specs.Reading.{checked, checked_command, unless_fault};
+ghost use Rattle.job_lang.specs.Reads.{names_of};
+ghost use Rattle.job_lang.specs.SignatureData.{signature_data};
+ghost use Rattle.job_lang.specs.Versions.{step_for, step_of, version_behind};
 
 use crate::command::Command;
 use crate::fault_kind::FaultKind;
+use crate::found::Found;
 use crate::reads::Reads;
+use crate::signature::Signature;
 use crate::sources::Sources;
 use crate::step::Step;
 use crate::tree_form::TreeForm;
@@ -32,51 +40,58 @@ pub struct History {
     fences: u32,
 }
 
-// Whether a form is the one that is needed, if one is.
-fn suits(needed: Option<TreeForm>, form: Option<TreeForm>) -> bool
-    ensures { result ≡ suits (option_map form_of needed) (option_map form_of form) }
+// The number of `print`s with one command more, which may be one.
+fn prints_with(prints: u32, is_print: bool) -> u32
+    requires { (not is_print || nat_lt prints max_prints) ≡ true }
+    ensures { result ≡ prints + (if is_print then 1 else 0) }
 {
-    match (needed, form) {
-        (None, _) => true,
-        (Some(TreeForm::Reconstructed), Some(TreeForm::Reconstructed)) => true,
-        (Some(TreeForm::Compressed), Some(TreeForm::Compressed)) => true,
-        _ => false,
-    }
+    if is_print { prints + 1 } else { prints }
 }
 
-// The number of `print`s with one command more.
-fn prints_with(prints: u32, command: &Command) -> u32
-    requires { (not (is_print (data_of command.now)) || nat_lt prints max_prints) ≡ true }
-    ensures { result ≡ prints + (if is_print (data_of command.now) then 1 else 0) }
-{
-    if command.is_print() {
-        prints + 1
-    } else {
-        prints
-    }
-}
-
-// The number of fences with one command more.
-fn fences_with(fences: u32, command: &Command) -> u32
+// The number of fences with one command more, which may be one.
+fn fences_with(fences: u32, is_fence: bool) -> u32
     requires { fences < 512 }
-    ensures { result ≡ fences + (if is_fence (data_of command.now) then 1 else 0) }
+    ensures { result ≡ fences + (if is_fence then 1 else 0) }
 {
-    if command.is_fence() {
-        fences + 1
-    } else {
-        fences
-    }
+    if is_fence { fences + 1 } else { fences }
 }
 
-// The number of commands since the last fence, with one command more.
-fn since_fence_with(since_fence: u32, command: &Command) -> u32
-    requires { (is_fence (data_of command.now) || nat_lt since_fence max_commands_before_fence) ≡ true }
-    ensures { result ≡ (if is_fence (data_of command.now) then 0 else since_fence + 1) }
+// The number of commands since the last fence, with one command more, which may be one.
+fn since_fence_with(since_fence: u32, is_fence: bool) -> u32
+    requires { (is_fence || nat_lt since_fence max_commands_before_fence) ≡ true }
+    ensures { result ≡ (if is_fence then 0 else since_fence + 1) }
 {
-    if command.is_fence() {
-        0
+    if is_fence { 0 } else { since_fence + 1 }
+}
+
+// Whether a command is near enough to the last fence, which may be it.
+fn is_near(since_fence: u32, is_fence: bool) -> bool
+    ensures { result ≡ (is_fence || nat_lt since_fence max_commands_before_fence) }
+{
+    is_fence || since_fence < MAX_COMMANDS_BEFORE_FENCE
+}
+
+// The lowest kind of fault, by the checks that hold.
+fn lowest_fault(
+    is_within: bool,
+    has_room: bool,
+    are_there: bool,
+    suit: bool,
+    is_near: bool,
+) -> Option<FaultKind>
+    ensures { (c : CommandData) → unless_fault result c
+        ≡ checked BeyondLimits (is_within && has_room) (checked UnknownTree are_there (checked WrongForm suit (checked FarFromFence is_near (Ok c)))) }
+{
+    if !is_within || !has_room {
+        Some(FaultKind::BeyondLimits)
+    } else if !are_there {
+        Some(FaultKind::UnknownTree)
+    } else if !suit {
+        Some(FaultKind::WrongForm)
+    } else if !is_near {
+        Some(FaultKind::FarFromFence)
     } else {
-        since_fence + 1
+        None
     }
 }
 
@@ -113,81 +128,56 @@ impl History {
         self.form_behind(before, name).is_some()
     }
 
-    // Whether the command writes a tree that none of the commands writes.
-    fn brings_tree(&self, before: &[Command], command: &Command) -> bool
+    // The forms of the trees of these names.
+    fn found(&self, before: &[Command], reads: &Reads) -> Found
         requires { Recalls (map data_of before.now) self.now }
-        ensures { result ≡ brings_tree (map data_of before.now) (data_of command.now) }
+        ensures { forms_in result ≡ map (form_behind (map data_of before.now)) (names_of reads.now) }
     {
-        match command.written_name() {
-            Some(name) => !self.is_written(before, name),
+        match *reads {
+            Reads::Nothing => Found::Nothing,
+            Reads::One(name) => Found::One(self.form_behind(before, name.bytes())),
+            Reads::Two(left, right) => Found::Two(
+                self.form_behind(before, left.bytes()),
+                self.form_behind(before, right.bytes()),
+            ),
+        }
+    }
+
+    // Whether a tree is written that none of the commands writes.
+    fn brings(&self, before: &[Command], signature: &Signature) -> bool
+        requires { Recalls (map data_of before.now) self.now }
+        ensures { result ≡ brings (map data_of before.now) (signature_data signature.now) }
+    {
+        match signature.writes {
+            Some(target) => !self.is_written(before, target.name.bytes()),
             None => false,
         }
     }
 
-    /// Whether the job has room for one more command.
-    pub fn has_room(&self, before: &[Command], command: &Command) -> bool
+    // Whether the job has room for one more command.
+    fn has_room_for(&self, before: &[Command], signature: &Signature) -> bool
         requires { Recalls (map data_of before.now) self.now }
-        ensures { result ≡ has_room (map data_of before.now) (data_of command.now) }
+        ensures { result ≡ has_room_for (map data_of before.now) (signature_data signature.now) }
     {
         before.len() < MAX_COMMANDS
-            && (!self.brings_tree(before, command) || self.trees < MAX_TREES)
-            && (!command.is_print() || self.prints < MAX_PRINTS)
+            && (!self.brings(before, signature) || self.trees < MAX_TREES)
+            && (!signature.prints || self.prints < MAX_PRINTS)
     }
 
-    /// Whether the trees that a command reads are written.
-    pub fn has_trees(&self, before: &[Command], command: &Command) -> bool
+    /// The lowest kind of fault that a command has behind the commands. None where it has none.
+    pub fn fault_of(&self, depth: u8, before: &[Command], command: &Command) -> Option<FaultKind>
         requires { Recalls (map data_of before.now) self.now }
-        ensures { result ≡ has_trees (map data_of before.now) (data_of command.now) }
+        ensures { unless_fault result (data_of command.now)
+            ≡ checked_command depth (map data_of before.now) (data_of command.now) }
     {
-        match command.names_read() {
-            Reads::Nothing => true,
-            Reads::One(name) => self.is_written(before, name),
-            Reads::Two(left, right) => {
-                self.is_written(before, left) && self.is_written(before, right)
-            }
-        }
-    }
-
-    // Whether a tree is in a form, if one is needed.
-    fn has_form(&self, before: &[Command], needed: Option<TreeForm>, name: &[u8]) -> bool
-        requires { Recalls (map data_of before.now) self.now }
-        ensures { result ≡ suits (option_map form_of needed) (form_behind (map data_of before.now) name.now) }
-    {
-        suits(needed, self.form_behind(before, name))
-    }
-
-    /// Whether the trees that a command reads are in the form that it needs.
-    pub fn has_forms(&self, before: &[Command], command: &Command) -> bool
-        requires { Recalls (map data_of before.now) self.now }
-        ensures { result ≡ has_forms (map data_of before.now) (data_of command.now) }
-    {
-        let needed = command.needed_form();
-        match command.names_read() {
-            Reads::Nothing => true,
-            Reads::One(name) => self.has_form(before, needed, name),
-            Reads::Two(left, right) => {
-                self.has_form(before, needed, left) && self.has_form(before, needed, right)
-            }
-        }
-    }
-
-    /// Whether a command is a fence, or fewer than 32 others stand between the last fence and it.
-    pub fn is_near_fence(&self, before: &[Command], command: &Command) -> bool
-        requires { Recalls (map data_of before.now) self.now }
-        ensures { result ≡ is_near_fence (map data_of before.now) (data_of command.now) }
-    {
-        command.is_fence() || self.since_fence < MAX_COMMANDS_BEFORE_FENCE
-    }
-
-    /// Whether a command may stand behind the commands.
-    pub fn may_follow(&self, before: &[Command], command: &Command) -> bool
-        requires { Recalls (map data_of before.now) self.now }
-        ensures { result ≡ may_follow (map data_of before.now) (data_of command.now) }
-    {
-        self.has_room(before, command)
-            && self.has_trees(before, command)
-            && self.has_forms(before, command)
-            && self.is_near_fence(before, command)
+        let signature = command.signature();
+        let is_within = signature.numbers.are_within(depth);
+        let has_room = self.has_room_for(before, &signature);
+        let found = self.found(before, &signature.reads);
+        let are_there = found.are_there();
+        let suit = found.suit(signature.needs);
+        let is_near = is_near(self.since_fence, signature.fences);
+        lowest_fault(is_within, has_room, are_there, suit, is_near)
     }
 
     /// Whether a command is within its limits at a depth, and may stand behind the commands.
@@ -195,28 +185,7 @@ impl History {
         requires { Recalls (map data_of before.now) self.now }
         ensures { result ≡ is_accepted depth (map data_of before.now) (data_of command.now) }
     {
-        command.is_within_limits(depth) && self.may_follow(before, command)
-    }
-
-    /// The lowest kind of fault that a command with names has behind the commands. None where it has none.
-    pub fn fault_of(&self, depth: u8, before: &[Command], command: &Command) -> Option<FaultKind>
-        requires { Recalls (map data_of before.now) self.now }
-        ensures { unless_fault result (data_of command.now)
-            ≡ checked_command depth (map data_of before.now) (data_of command.now) }
-    {
-        if !command.has_numbers(depth) || !self.has_room(before, command) {
-            return Some(FaultKind::BeyondLimits);
-        }
-        if !self.has_trees(before, command) {
-            return Some(FaultKind::UnknownTree);
-        }
-        if !self.has_forms(before, command) {
-            return Some(FaultKind::WrongForm);
-        }
-        if !self.is_near_fence(before, command) {
-            return Some(FaultKind::FarFromFence);
-        }
-        None
+        self.fault_of(depth, before, command).is_none()
     }
 
     // The version that a name has behind the commands, or 0.
@@ -228,26 +197,36 @@ impl History {
         version_at(before, &self.places[..self.trees], name)
     }
 
+    // What a command with this signature reads and writes behind the commands, which are fewer than 512.
+    fn step_for(&self, before: &[Command], signature: &Signature) -> Step
+        requires recalls { Recalls (map data_of before.now) self.now }
+        requires few { length before.now < 512 }
+        ensures { result ≡ step_for (map data_of before.now) (signature_data signature.now) }
+    {
+        let reads = match signature.reads {
+            Reads::Nothing => Sources::Nothing,
+            Reads::One(name) => Sources::One(self.version_behind(before, name.bytes())),
+            Reads::Two(left, right) => Sources::Two(
+                self.version_behind(before, left.bytes()),
+                self.version_behind(before, right.bytes()),
+            ),
+        };
+        let number = before.len() as u32 + 1;
+        Step {
+            reads,
+            writes: signature.writes.map(|_| number),
+            fence: self.fences + 1,
+        }
+    }
+
     /// What a command reads and writes behind the commands, which are fewer than 512.
     pub fn step_of(&self, before: &[Command], command: &Command) -> Step
         requires recalls { Recalls (map data_of before.now) self.now }
         requires few { length before.now < 512 }
         ensures { result ≡ step_of (map data_of before.now) (data_of command.now) }
     {
-        let reads = match command.names_read() {
-            Reads::Nothing => Sources::Nothing,
-            Reads::One(name) => Sources::One(self.version_behind(before, name)),
-            Reads::Two(left, right) => Sources::Two(
-                self.version_behind(before, left),
-                self.version_behind(before, right),
-            ),
-        };
-        let number = before.len() as u32 + 1;
-        Step {
-            reads,
-            writes: command.written_name().map(|_| number),
-            fence: self.fences + 1,
-        }
+        let signature = command.signature();
+        self.step_for(before, &signature)
     }
 
     // Takes note of the writer of a tree, which is to stand behind the commands.
@@ -265,7 +244,7 @@ impl History {
             return;
         };
         let trees = self.trees;
-        let known = writer_of(before, &self.places[..trees], name);
+        let known = writer_of(before, &self.places[..trees], name.bytes());
         match known {
             Some(at) => self.places[at] = before.len(),
             None => {
@@ -282,9 +261,10 @@ impl History {
         ensures { Recalls (map data_of before.now ++ data_of command.now ∷ []) self.new }
     {
         self.add_writer(before, command);
-        self.prints = prints_with(self.prints, command);
-        self.since_fence = since_fence_with(self.since_fence, command);
-        self.fences = fences_with(self.fences, command);
+        let signature = command.signature();
+        self.prints = prints_with(self.prints, signature.prints);
+        self.since_fence = since_fence_with(self.since_fence, signature.fences);
+        self.fences = fences_with(self.fences, signature.fences);
     }
 
     /// How many trees the commands bring.

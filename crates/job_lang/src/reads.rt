@@ -1,7 +1,10 @@
+//! The names that a command reads.
+use job_words::Name;
+
 /// The names of the trees that a command reads.
 #[derive(Clone, Copy)]
-pub enum Reads<'a> {
+pub enum Reads {
     Nothing,
-    One(&'a [u8]),
-    Two(&'a [u8], &'a [u8]),
+    One(Name),
+    Two(Name, Name),
 }

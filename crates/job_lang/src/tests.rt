@@ -1,10 +1,11 @@
 //! What `parse` answers, at texts whose readings were worked out by hand.
 use super::*;
 use haar_node::Func;
+use job_words::Name;
 use std::alloc::{AllocError, Global};
 use std::process::Abort;
 use std::test::Fail;
-use tree_key::{OutOfMemory, Text};
+use tree_key::OutOfMemory;
 
 // The depth and the number of commands, or why there is no job.
 fn outcome(alloc: Global, text: &[u8]) -> Result<(u8, usize), ParseError> {
@@ -150,20 +151,21 @@ fn keeps_what_a_command_says(rt: HostRuntime) -> Result<(), Fail> {
         rt.alloc(),
         b"job 1 depth 3\nproject a_1 ramp -7 2 level 1 tol 9\n",
     )?;
-    let [
-        Command::Project {
-            name,
-            function,
-            level,
-            tolerance,
-        },
-    ] = job.commands()
+    let [command] = job.commands() else {
+        return Err(Fail::from("not one command"));
+    };
+    let Command::Project {
+        name,
+        function,
+        level,
+        tolerance,
+    } = *command
     else {
-        return Err(Fail::from("not one project"));
+        return Err(Fail::from("not a project"));
     };
     assert_eq!(rt; name.bytes(), b"a_1".as_slice());
-    assert_eq!(rt; *function, Func::Ramp(-7, 2));
-    assert_eq!(rt; (*level, *tolerance), (1, 9));
+    assert_eq!(rt; function, Func::Ramp(-7, 2));
+    assert_eq!(rt; (level, tolerance), (1, 9));
     Ok(())
 }
 
@@ -182,52 +184,36 @@ fn prints_faults(rt: HostRuntime) -> Result<(), Fail> {
     Ok(())
 }
 
-fn text(alloc: Global, bytes: &[u8]) -> Result<Text, OutOfMemory> {
-    let mut text = Text::new(alloc);
-    text.add(bytes)?;
-    Ok(text)
-}
-
-fn project(alloc: Global, name: &[u8]) -> Result<Command, OutOfMemory> {
-    Ok(Command::Project {
-        name: text(alloc, name)?,
+// Whether a projection of `f`, `compress` of a name and a sum make a job at depth 2. None where there is no such name.
+fn is_job(alloc: Global, word: &[u8], factor: i64) -> Result<Option<bool>, OutOfMemory> {
+    let (Some(f), Some(name)) = (Name::of_word(b"f"), Name::of_word(word)) else {
+        return Ok(None);
+    };
+    let mut commands = Vec::new(alloc);
+    commands.push(Command::Project {
+        name: f,
         function: Func::Step(1, 7, -7),
         level: 2,
         tolerance: 33_554_432,
-    })
-}
-
-fn compress(alloc: Global, name: &[u8]) -> Result<Command, OutOfMemory> {
-    let name = text(alloc, name)?;
-    Ok(Command::Compress { name })
-}
-
-fn double(alloc: Global, factor: i64) -> Result<Command, OutOfMemory> {
-    Ok(Command::Add {
-        name: text(alloc, b"f")?,
+    })?;
+    commands.push(Command::Compress { name })?;
+    commands.push(Command::Add {
+        name: f,
         left_factor: factor,
-        left: text(alloc, b"f")?,
+        left: f,
         right_factor: 0,
-        right: text(alloc, b"f")?,
-    })
-}
-
-// Whether a projection, `compress` of a name and a sum make a job at depth 2.
-fn is_job(alloc: Global, name: &[u8], factor: i64) -> Result<bool, OutOfMemory> {
-    let mut commands = Vec::new(alloc);
-    commands.push(project(alloc, b"f")?)?;
-    commands.push(compress(alloc, name)?)?;
-    commands.push(double(alloc, factor)?)?;
-    Ok(Job::of_commands(2, commands).is_some())
+        right: f,
+    })?;
+    Ok(Some(Job::of_commands(2, commands).is_some()))
 }
 
 #[test]
 fn makes_jobs_of_commands(rt: HostRuntime) -> Result<(), Fail> {
     let cases = [
-        (b"f", 1 << 20, true),
-        (b"f", (1 << 20) + 1, false),
-        (b"g", 1, false),
-        (b"F", 1, false),
+        (b"f", 1 << 20, Some(true)),
+        (b"f", (1 << 20) + 1, Some(false)),
+        (b"g", 1, Some(false)),
+        (b"F", 1, None),
     ];
     for (name, factor, want) in cases {
         assert_eq!(rt; is_job(rt.alloc(), name, factor)?, want, "at {name:?}");

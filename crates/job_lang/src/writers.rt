@@ -1,8 +1,7 @@
 //! The last writer of each tree, as places of a list of commands.
 ghost use Rattle.std.specs.Prelude.{◌≡◌, ◌<◌, All, map, position};
 ghost use Rattle.std.specs.Option.{option_map};
-ghost use Rattle.tree_model.specs.Commands.{writes};
-ghost use Rattle.job_lang.specs.Checks.{written_form};
+ghost use Rattle.tree_model.specs.Signatures.{writes, written_form};
 ghost use Rattle.job_lang.specs.Data.{data_of, form_of};
 ghost use Rattle.job_lang.specs.Writers.{command_at, form_at, version_at};
 

@@ -1,3 +1,4 @@
 pub mod Positions
 pub mod LineCuts
 pub mod WordLaws
+pub mod NameLemmas

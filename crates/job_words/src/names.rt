@@ -1,10 +1,8 @@
-ghost use Rattle.std.specs.Prelude.{◌≡◌, true, slice_index, if◌then◌else◌, IfOk};
+//! Names of trees.
+ghost use Rattle.std.specs.Prelude.{◌≡◌, ◌++◌, ◌-◌, ◌≤◌, true, length, position, replicate, slice_index, if◌then◌else◌};
+ghost use Rattle.std.specs.List.{before_first, list_all, position_or_len};
 ghost use Rattle.std.specs.Option.{option_map};
-ghost use Rattle.std.specs.List.{list_all};
-ghost use Rattle.job_words.specs.Names.{is_letter, is_name_byte, is_name};
-
-use std::alloc::{AllocError, Global};
-use tree_key::Text;
+ghost use Rattle.job_words.specs.Names.{is_letter, is_name_byte, is_name, is_zero, unpadded};
 
 const MAX_NAME_LEN: usize = 16;
 
@@ -32,40 +30,69 @@ fn has_name_bytes(word: &[u8]) -> bool
     word.iter().all(|byte| is_name_byte(*byte))
 }
 
-/// Whether a word is a name.
-pub fn is_name(word: &[u8]) -> bool
+// Whether a word is a name.
+fn is_name(word: &[u8]) -> bool
     ensures { result ≡ is_name word.now }
 {
     begins_name(word) && word.len() <= MAX_NAME_LEN && has_name_bytes(word)
 }
 
-/// A name, as a slice of its line: a lower-case letter, and then lower-case letters, digits and `_`, at most 16 bytes in
-/// all.
-#[derive(Clone, Copy)]
-pub struct Name<'a> {
-    pub bytes: &'a [u8],
-    pub ghost is_name: { is_name bytes.now ≡ true },
+// A word of at most 16 bytes, and zeros after it.
+fn padded(word: &[u8]) -> [u8; MAX_NAME_LEN]
+    requires { length word.now ≤ 16 }
+    ensures { result ≡ word.now ++ replicate (16 - length word.now) 0 }
+{
+    let mut padded = [0; MAX_NAME_LEN];
+    padded[..word.len()].copy_from_slice(word);
+    padded
 }
 
-impl<'a> Name<'a> {
+// Where the first zero stands.
+fn first_zero(padded: &[u8]) -> Option<usize>
+    ensures { result ≡ position is_zero padded.now }
+{
+    padded.iter().position(|byte| *byte == 0)
+}
+
+// How many bytes there are before the first zero.
+fn unpadded_len(padded: &[u8]) -> usize
+    ensures { result ≡ position_or_len is_zero padded.now }
+{
+    match first_zero(padded) {
+        Some(len) => len,
+        None => padded.len(),
+    }
+}
+
+/// A name: a lower-case letter, and then lower-case letters, digits and `_`, at most 16 bytes in all. It is a value of 16
+/// bytes that takes no memory of its own.
+#[derive(Clone, Copy, Debug, PartialEq, Eq)]
+pub struct Name {
+    // Zeros follow the bytes of the name.
+    padded: [u8; MAX_NAME_LEN],
+    ghost is_name: { is_name (unpadded padded) ≡ true },
+}
+
+impl Name {
+    ghost use Rattle.job_words.specs.NameBytes.{bytes_of};
+
     /// The word as a name. None exactly where it isn't one.
-    pub fn of_word(word: &'a [u8]) -> Option<Name<'a>>
-        ensures { option_map (λ name. name.bytes.now) result ≡ (if is_name word.now then Some word.now else None) }
+    pub fn of_word(word: &[u8]) -> Option<Name>
+        ensures { option_map bytes_of result ≡ (if is_name word.now then Some word.now else None) }
     {
         if is_name(word) {
-            Some(Name { bytes: word })
+            Some(Name {
+                padded: padded(word),
+            })
         } else {
             None
         }
     }
-    /// The bytes in a text of their own.
-    pub fn to_text(self, alloc: Global) -> Result<Text, AllocError>
-        ensures { IfOk result (λ text. text ≡ self.entry.bytes.now) }
+
+    /// The bytes of the name.
+    pub fn bytes(&self) -> &[u8]
+        ensures { result.now ≡ bytes_of self.now }
     {
-        let mut text = Text::new(alloc);
-        if text.add(self.bytes).is_err() {
-            return Err(AllocError);
-        }
-        Ok(text)
+        &self.padded[..unpadded_len(&self.padded)]
     }
 }

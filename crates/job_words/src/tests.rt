@@ -76,7 +76,7 @@ fn allows_tabs_and_printable_bytes(rt: HostRuntime) {
 }
 
 #[test]
-fn reads_names(rt: HostRuntime) -> Result<(), Fail> {
+fn reads_names(rt: HostRuntime) {
     let cases: [(&[u8], bool); 7] = [
         (b"f", true),
         (b"abcdefghijklm_09", true),
@@ -87,16 +87,14 @@ fn reads_names(rt: HostRuntime) -> Result<(), Fail> {
         (b"aB", false),
     ];
     for (word, want) in cases {
-        assert_eq!(rt; is_name(word), want, "at {word:?}");
         match Name::of_word(word) {
             Some(name) => {
                 assert!(rt; want, "at {word:?}");
-                assert_eq!(rt; name.to_text(rt.alloc())?.bytes(), word);
+                assert_eq!(rt; name.bytes(), word);
             }
             None => assert!(rt; !want, "at {word:?}"),
         }
     }
-    Ok(())
 }
 
 #[test]

@@ -4,15 +4,14 @@ use Rattle.std.specs.Borrow.{Bor}
 use Rattle.std.specs.BTreeMap.{BTreeMap}
 use Rattle.std.specs.Option.{option_map_or}
 use Rattle.std.specs.Str.{bytes_eq}
-use Rattle.tree_model.specs.Commands.{Command, writes}
-use Rattle.tree_model.specs.Commands.Command.{Project, Refine, Compress, Reconstruct, Add, Mul, Inner, Print, Fence}
+use Rattle.tree_model.specs.Commands.{Command}
+use Rattle.tree_model.specs.Signatures.{writes, written_name}
 use Rattle.tree_model.specs.Nodes.{Form}
 use Rattle.tree_model.specs.Nodes.Form.{Reconstructed, Compressed}
 use Rattle.tree_model.specs.Operations.{overflows}
 use Rattle.tree_model.specs.Trees.{Tree}
 use Rattle.tree_model.specs.Versions.{Version, Versions, written, newer, after, command_overflows}
 use Rattle.tree_model.proofs.KeptLaws.{values-dont-overflow}
-use Rattle.job_lang.specs.Checks.{written_name}
 use Rattle.plain_tree.specs.Kept.{KeepsForm, Matches}
 use Rattle.plain_tree.specs.Trees.{kept_at, HasVersions}
 use Rattle.plain_tree.specs.declared.kept.Kept.{Kept}
@@ -20,26 +19,10 @@ use Rattle.plain_tree.specs.declared.kept.Kept.TheVariants.{Reconstructed as Kep
 
 -- which name a command writes
 writes-name : (c : Command) (name other : List ℕ) → written_name c ≡ Some name → writes other c ≡ bytes_eq other name
-writes-name (Project written projection) name other is = let same : written ≡ name = cc in ap (bytes_eq other) same
-writes-name (Refine written level) name other is = let same : written ≡ name = cc in ap (bytes_eq other) same
-writes-name (Compress written) name other is = let same : written ≡ name = cc in ap (bytes_eq other) same
-writes-name (Reconstruct written) name other is = let same : written ≡ name = cc in ap (bytes_eq other) same
-writes-name (Add written a left b right) name other is = let same : written ≡ name = cc in ap (bytes_eq other) same
-writes-name (Mul written left right) name other is = let same : written ≡ name = cc in ap (bytes_eq other) same
-writes-name (Inner left right) name other is = cc
-writes-name (Print printed) name other is = cc
-writes-name Fence name other is = cc
+writes-name c name other is = ap (λ o. option_map_or (bytes_eq other) o false) is
 
 writes-none : (c : Command) (other : List ℕ) → written_name c ≡ None → writes other c ≡ false
-writes-none (Project written projection) other is = cc
-writes-none (Refine written level) other is = cc
-writes-none (Compress written) other is = cc
-writes-none (Reconstruct written) other is = cc
-writes-none (Add written a left b right) other is = cc
-writes-none (Mul written left right) other is = cc
-writes-none (Inner left right) other is = refl
-writes-none (Print printed) other is = refl
-writes-none Fence other is = refl
+writes-none c other is = ap (λ o. option_map_or (bytes_eq other) o false) is
 
 -- no tree is written
 stays : (b : Bool) (depth : ℕ) (version before : Option Version) (kept : Option Kept) → Matches depth None version → Matches depth kept before → Matches depth kept (cond b (newer version before) before)

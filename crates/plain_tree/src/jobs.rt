@@ -1,7 +1,10 @@
 //! A job done serially, command by command.
 ghost use Rattle.std.specs.Prelude.{◌≡◌, ◌≤◌, ◌++◌, ℕ, List, None, Some, Err, IfOk, OnOk, true, false};
+ghost use Rattle.std.specs.Option.{option_map};
+ghost use Rattle.tree_model.specs.Commands.{Command as CommandData};
 ghost use Rattle.tree_model.specs.Functions.{max_depth};
 ghost use Rattle.tree_model.specs.Jobs.{command_lines, first_overflow, job_text, lines_before};
+ghost use Rattle.tree_model.specs.Signatures.{written_name};
 ghost use Rattle.tree_model.specs.Versions.{Versions, written, after, command_overflows};
 ghost use Rattle.job_lang.specs.Checks.{is_within_limits};
 ghost use Rattle.job_lang.specs.Data.{data_of};
@@ -9,35 +12,33 @@ ghost use Rattle.plain_tree.specs.Kept.{Matches};
 ghost use Rattle.plain_tree.specs.Trees.{HasVersions};
 
 use crate::command_error::CommandError;
-use crate::kept::Kept;
 use crate::serial_error::SerialError;
 use crate::trees::{Trees, put};
-use crate::writing::{add_lines, written_tree};
+use crate::writing::{Written, carry_out};
 use job_lang::{Command, Job};
 use std::alloc::Global;
 use std::collections::BTreeMap;
 use tree_key::{OutOfMemory, Text};
 
 // Gives the name that a command writes the tree that it wrote, if it wrote one.
-fn put_written<'a>(
-    command: &'a Command,
-    tree: Option<Kept>,
-    trees: &mut Trees<'a>,
-) -> Result<(), OutOfMemory>
-    ensures { OnOk result ((depth : ℕ) (versions : Versions) → HasVersions depth versions trees.old →
-        Matches depth tree (written depth versions (data_of command.now)) →
-        HasVersions depth (after depth versions (data_of command.now)) trees.new) }
+fn put_written<'a>(done: Written<'a>, trees: &mut Trees<'a>) -> Result<(), OutOfMemory>
+    ensures { OnOk result ((depth : ℕ) (versions : Versions) (command : CommandData) →
+        option_map (λ name. name.now) done.entry.name ≡ written_name command →
+        HasVersions depth versions trees.old →
+        Matches depth done.entry.tree (written depth versions command) →
+        HasVersions depth (after depth versions command) trees.new) }
 {
+    let Written { name, tree } = done;
     match tree {
         None => Ok(()),
-        Some(kept) => match command.written_name() {
+        Some(kept) => match name {
             Some(name) => put(trees, name, kept),
             None => Ok(()),
         },
     }
 }
 
-// Carries a command out: it writes its tree, and adds its lines.
+// Carries a command out, and gives its tree to the name that it writes.
 fn run_command<'a>(
     alloc: Global,
     depth: u8,
@@ -58,9 +59,8 @@ fn run_command<'a>(
         command_overflows depth versions (data_of command.now) ≡ true }
     ensures kept { result ≡ Err CommandError.Overflow → text.new ≡ text.old }
 {
-    let tree = written_tree(alloc, depth, command, trees)?;
-    add_lines(depth, command, trees, text)?;
-    put_written(command, tree, trees)?;
+    let done = carry_out(alloc, depth, command, trees, text)?;
+    put_written(done, trees)?;
     Ok(())
 }
 

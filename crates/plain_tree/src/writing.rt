@@ -1,9 +1,12 @@
 //! What a command writes: a tree, or lines.
-ghost use Rattle.std.specs.Prelude.{◌≡◌, ◌^◌, ◌≤◌, ◌++◌, ℕ, List, IfOk, OnOk, Err, true};
+ghost use Rattle.std.specs.Prelude.{◌≡◌, ◌^◌, ◌≤◌, ◌++◌, ℕ, List, Some, IfOk, OnOk, Err, true};
 ghost use Rattle.std.specs.Int.RustNames.{unsigned_abs};
-ghost use Rattle.tree_model.specs.Commands.Command.{Refine, Compress, Reconstruct, Add, Mul};
+ghost use Rattle.std.specs.Option.{option_map};
+ghost use Rattle.job_words.specs.NameBytes.{bytes_of};
+ghost use Rattle.tree_model.specs.Commands.Command.{Refine, Compress, Reconstruct, Add, Mul, Inner, Print};
 ghost use Rattle.tree_model.specs.Functions.{max_depth};
 ghost use Rattle.tree_model.specs.Jobs.{command_lines};
+ghost use Rattle.tree_model.specs.Signatures.{written_name};
 ghost use Rattle.tree_model.specs.Versions.{Versions, written, command_overflows};
 ghost use Rattle.job_lang.specs.Checks.{is_within_limits};
 ghost use Rattle.job_lang.specs.Data.{data_of};
@@ -16,6 +19,7 @@ use crate::lines::{add_inner, add_tree};
 use crate::operations::{add, compress, inner, multiply, project, reconstruct, refine};
 use crate::trees::{Trees, both_compressed, both_leaves, compressed_of, leaves_of, tree_of};
 use job_lang::Command;
+use job_words::Name;
 use std::alloc::Global;
 use tree_key::{OutOfMemory, Text};
 
@@ -120,92 +124,148 @@ fn added(
     }
 }
 
-/// The tree that a command writes. None where it writes none, also where a tree that it reads isn't there in the form
-/// that it needs.
-///
-/// # Errors
-///
-/// `Overflow` where a value of the tree would be more than a cell may have; `OutOfMemory` where there is no memory left.
-pub fn written_tree(
-    alloc: Global,
+// Adds the lines of `inner`.
+fn add_inner_lines(
     depth: u8,
-    command: &Command,
     trees: &Trees<'_>,
-) -> Result<Option<Kept>, CommandError>
-    requires depth { depth ≤ max_depth }
-    requires limits { is_within_limits depth (data_of command.now) ≡ true }
-    requires versions { (versions : Versions) × HasVersions depth versions trees.now }
-    ensures kept { IfOk result (λ kept. (versions : Versions) → HasVersions depth versions trees.now →
-        Matches depth kept (written depth versions (data_of command.now))) }
-    ensures over { result ≡ Err CommandError.Overflow → (versions : Versions) → HasVersions depth versions trees.now →
-        command_overflows depth versions (data_of command.now) ≡ true }
-{
-    match command {
-        Command::Project {
-            function,
-            level,
-            tolerance,
-            ..
-        } => {
-            let leaves = project(alloc, depth, *function, *level, *tolerance)?;
-            Ok(Some(Kept::Reconstructed(leaves)))
-        }
-        Command::Refine { name, level } => {
-            Ok(refined(alloc, depth, trees, name.bytes(), *level)?)
-        }
-        Command::Compress { name } => Ok(compressed(alloc, depth, trees, name.bytes())?),
-        Command::Reconstruct { name } => Ok(reconstructed(alloc, depth, trees, name.bytes())?),
-        Command::Add {
-            left_factor,
-            left,
-            right_factor,
-            right,
-            ..
-        } => added(
-            alloc,
-            depth,
-            trees,
-            *left_factor,
-            left.bytes(),
-            *right_factor,
-            right.bytes(),
-        ),
-        Command::Mul { left, right, .. } => {
-            multiplied(alloc, depth, trees, left.bytes(), right.bytes())
-        }
-        Command::Inner { .. } | Command::Print { .. } | Command::Fence => Ok(None),
-    }
-}
-
-/// Adds the lines that a command writes.
-pub fn add_lines(
-    depth: u8,
-    command: &Command,
-    trees: &Trees<'_>,
+    left: &[u8],
+    right: &[u8],
     text: &mut Text,
 ) -> Result<(), OutOfMemory>
     requires { (versions : Versions) × HasVersions depth versions trees.now }
     ensures { OnOk result ((versions : Versions) → HasVersions depth versions trees.now →
+        text.new ≡ text.old ++ command_lines versions (Inner left.now right.now)) }
+{
+    match both_compressed(trees, left, right) {
+        Some((one, other)) => add_inner(text, left, right, inner(depth, one, other)),
+        None => Ok(()),
+    }
+}
+
+// Adds the lines of `print`.
+fn add_printed_lines(
+    depth: u8,
+    trees: &Trees<'_>,
+    name: &[u8],
+    text: &mut Text,
+) -> Result<(), OutOfMemory>
+    requires { (versions : Versions) × HasVersions depth versions trees.now }
+    ensures { OnOk result ((versions : Versions) → HasVersions depth versions trees.now →
+        text.new ≡ text.old ++ command_lines versions (Print name.now)) }
+{
+    match tree_of(trees, name) {
+        Some(kept) => add_tree(text, name, kept),
+        None => Ok(()),
+    }
+}
+
+/// What a command wrote.
+#[derive(Drop)]
+pub struct Written<'a> {
+    /// The name of the tree that the command writes.
+    pub name: Option<&'a [u8]>,
+    /// The tree. None where the command writes none, also where a tree that it reads isn't there in the form that it
+    /// needs.
+    pub tree: Option<Kept>,
+}
+
+// What a command wrote that writes a tree of this name.
+fn named<'a>(name: &'a Name, tree: Option<Kept>) -> Written<'a>
+    ensures name { option_map (λ name. name.now) result.name ≡ Some (bytes_of name.now) }
+    ensures tree { result.tree ≡ tree }
+{
+    Written {
+        name: Some(name.bytes()),
+        tree,
+    }
+}
+
+/// Carries a command out: it makes the tree that the command writes, or adds its lines.
+///
+/// # Errors
+///
+/// `Overflow` where a value of the tree would be more than a cell may have; `OutOfMemory` where there is no memory left.
+pub fn carry_out<'a>(
+    alloc: Global,
+    depth: u8,
+    command: &'a Command,
+    trees: &Trees<'_>,
+    text: &mut Text,
+) -> Result<Written<'a>, CommandError>
+    requires depth { depth ≤ max_depth }
+    requires limits { is_within_limits depth (data_of command.now) ≡ true }
+    requires versions { (versions : Versions) × HasVersions depth versions trees.now }
+    ensures name { IfOk result (λ done. option_map (λ name. name.now) done.name ≡ written_name (data_of command.now)) }
+    ensures kept { IfOk result (λ done. (versions : Versions) → HasVersions depth versions trees.now →
+        Matches depth done.tree (written depth versions (data_of command.now))) }
+    ensures over { result ≡ Err CommandError.Overflow → (versions : Versions) → HasVersions depth versions trees.now →
+        command_overflows depth versions (data_of command.now) ≡ true }
+    ensures text { OnOk result ((versions : Versions) → HasVersions depth versions trees.now →
         text.new ≡ text.old ++ command_lines versions (data_of command.now)) }
+    ensures text_kept { result ≡ Err CommandError.Overflow → text.new ≡ text.old }
 {
     match command {
-        Command::Inner { left, right } => {
-            let (left, right) = (left.bytes(), right.bytes());
-            match both_compressed(trees, left, right) {
-                Some((one, other)) => add_inner(text, left, right, inner(depth, one, other)),
-                None => Ok(()),
-            }
+        Command::Project {
+            name,
+            function,
+            level,
+            tolerance,
+        } => {
+            let leaves = project(alloc, depth, *function, *level, *tolerance)?;
+            Ok(named(name, Some(Kept::Reconstructed(leaves))))
         }
-        Command::Print { name } => match tree_of(trees, name.bytes()) {
-            Some(kept) => add_tree(text, name.bytes(), kept),
-            None => Ok(()),
-        },
-        Command::Project { .. }
-        | Command::Refine { .. }
-        | Command::Compress { .. }
-        | Command::Reconstruct { .. }
-        | Command::Add { .. }
-        | Command::Mul { .. }
-        | Command::Fence => Ok(()),
+        Command::Refine { name, level } => {
+            let tree = refined(alloc, depth, trees, name.bytes(), *level)?;
+            Ok(named(name, tree))
+        }
+        Command::Compress { name } => {
+            let tree = compressed(alloc, depth, trees, name.bytes())?;
+            Ok(named(name, tree))
+        }
+        Command::Reconstruct { name } => {
+            let tree = reconstructed(alloc, depth, trees, name.bytes())?;
+            Ok(named(name, tree))
+        }
+        Command::Add {
+            name,
+            left_factor,
+            left,
+            right_factor,
+            right,
+        } => {
+            let (left, right) = (left.bytes(), right.bytes());
+            let tree = added(
+                alloc,
+                depth,
+                trees,
+                *left_factor,
+                left,
+                *right_factor,
+                right,
+            )?;
+            Ok(named(name, tree))
+        }
+        Command::Mul { name, left, right } => {
+            let tree = multiplied(alloc, depth, trees, left.bytes(), right.bytes())?;
+            Ok(named(name, tree))
+        }
+        Command::Inner { left, right } => {
+            add_inner_lines(depth, trees, left.bytes(), right.bytes(), text)?;
+            Ok(Written {
+                name: None,
+                tree: None,
+            })
+        }
+        Command::Print { name } => {
+            add_printed_lines(depth, trees, name.bytes(), text)?;
+            Ok(Written {
+                name: None,
+                tree: None,
+            })
+        }
+        Command::Fence => Ok(Written {
+            name: None,
+            tree: None,
+        }),
     }
 }

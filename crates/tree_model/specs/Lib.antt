@@ -12,6 +12,7 @@ pub mod Operations
 pub mod OperationTexts
 pub mod OperationLaws
 pub mod Commands
+pub mod Signatures
 pub mod Versions
 pub mod Jobs
 pub mod Kept

@@ -1,8 +1,13 @@
-use Rattle.std.proofs.Common.{◌∷◌, []}
+use Rattle.std.proofs.Common.{◌∷◌, [], map}
 use Rattle.std.proofs.lemmas.List.{map-append}
 use Rattle.job_lang.specs.Data.{data_of}
-use Rattle.job_lang.proofs.CheckLaws.{IsJob-push}
+use Rattle.job_lang.proofs.CheckLaws.{IsJob-push, follows-accepted}
 use Rattle.job_lang.proofs.accepted.Accepted.push.Goals as goal
+
+pub add-requires-clause-follows : goal.add-requires-clause-follows
+add-requires-clause-follows c =
+    let accepted = rw (← c.self.view_is) at c.requires in
+    rw c.deref.ensures.value (follows-accepted c.self.inside.depth (map data_of c.self.inside.commands.items) (data_of c.args.command) accepted)
 
 pub invariant_of-self-2 : goal.invariant_of-self-2
 invariant_of-self-2 c =
