@@ -20,7 +20,7 @@ use Rattle.job_lang.specs.declared.function_form.FunctionForm.TheVariants.{Const
 use Rattle.job_lang.specs.Canonical.{function_words, command_words, header_words, command_text, canonical_text}
 use Rattle.job_lang.specs.Checks.{has_names, has_numbers, is_within_limits, has_room, has_trees, has_forms, is_near_fence, may_follow, is_accepted, are_accepted, IsJob}
 use Rattle.tree_model.specs.Signatures.{is_factor}
-use Rattle.job_lang.specs.Grammar.{name_at, function_at, function_of_form, header_of}
+use Rattle.job_lang.specs.Grammar.{function_at, function_of_form, header_of}
 use Rattle.job_words.specs.Lines.{Words, words, is_passed_over, line_of}
 use Rattle.job_words.specs.Names.{is_name}
 use Rattle.job_words.specs.Numbers.{number}
@@ -50,9 +50,6 @@ limit = lit≤ tt
 
 value_small : (z : ℤ) → is_value z ≡ true → Small z
 value_small z is = let most : unsigned_abs z ≤ 16777216 = at_most (unsigned_abs z) 16777216 is in omega (arith, most, limit)
-
-size_small : (n : ℕ) → n < 2 ^ 32 → n < 10 ^ 18
-size_small n small = omega (arith, small, limit)
 
 a_word : (w : List ℕ) → list_all (λ b. nat_le 33 b && nat_le b 126) w ≡ true → nat_lt 0 (length w) ≡ true → IsWord w
 a_word w graphic some = record { some = some; graphic = graphic }
@@ -143,9 +140,6 @@ flat_map-more f xs i x below is =
     ∙ ap (flat_map command_text) (map-append f (take i xs) (x ∷ []))
     ∙ flat_map-append command_text (map f (take i xs)) (f x ∷ [])
     ∙ ap (λ rest. flat_map command_text (map f (take i xs)) ++ rest) (append-nil (command_text (f x)))
-
-name_reads : (name : List ℕ) (rest : Words) → is_name name ≡ true → name_at (name ∷ rest) ≡ Some (name, rest)
-name_reads name rest is = rw is refl
 
 -- a form that reads as a command
 pub record Reads (c : Command) : Type 0 where

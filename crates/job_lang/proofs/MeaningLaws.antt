@@ -1,6 +1,6 @@
 -- The checks' tables of what commands read and write, beside the model's.
-use Rattle.std.proofs.Common.{◌≡◌, ℕ, Bool, true, false, List, [], ◌∷◌, ◌++◌, length, refl, sym, ◌∙◌, ◌<◌, ap, subst, append_assoc, append-nil, arith, length-append}
-use Rattle.std.specs.Prelude.{◌&&◌, not, nat_lt, Option, Some, None, is_some, is_none, codes, if◌then◌else◌}
+use Rattle.std.proofs.Common.{◌≡◌, ℕ, Bool, true, false, List, [], ◌∷◌, ◌++◌, length, refl, sym, ◌∙◌, ◌<◌, ap, append_assoc, append-nil, arith, length-append}
+use Rattle.std.specs.Prelude.{◌&&◌, nat_lt, Option, Some, None, is_some, if◌then◌else◌}
 use Rattle.std.specs.List.{list_all, fold}
 use Rattle.std.specs.Option.{option_map, option_map_or}
 use Rattle.std.proofs.lemmas.Bool.{and_parts}
@@ -16,7 +16,7 @@ use Rattle.tree_model.specs.OperationTexts.{printed_lines, inner_line}
 use Rattle.tree_model.specs.Signatures.{writes, written_form}
 use Rattle.tree_model.specs.Trees.{Tree}
 use Rattle.tree_model.specs.Versions.{Version, Versions, no_versions, same_form, tree_in, read, two_trees, read_two, written, newer, after, versions_behind}
-use Rattle.job_lang.specs.Checks.{IsJob, form_after, form_behind, has_forms, has_room, has_trees, is_accepted, are_accepted, is_near_fence, is_within_limits, is_written, may_follow, names_read, needed_form, suits}
+use Rattle.job_lang.specs.Checks.{IsJob, form_behind, has_forms, has_room, has_trees, is_accepted, are_accepted, is_near_fence, is_within_limits, is_written, may_follow, names_read, needed_form, suits}
 use Rattle.job_lang.specs.Meaning.{HasMeaning, reads_trees, tree_read, version_form, writes_lines}
 use Rattle.job_lang.proofs.CheckLaws.{are_accepted-at}
 use Rattle.job_lang.proofs.WriterLaws.{form_behind-push, is_written-form, written_form-writes}

@@ -1,6 +1,6 @@
 -- Facts that hold where a call succeeds.
 use Rattle.std.proofs.Common.{◌≡◌, Result, OnOk, sym, ◌∙◌, ap}
-use Rattle.std.specs.Prelude.{Ok, Err, IsErrAnd, IfOk}
+use Rattle.std.specs.Prelude.{Ok, Err, IsErrAnd}
 
 -- a fact that follows from what holds on success
 pub OnOk-map : {T E : Type 0} (r : Result T E) (P Q : Type 0) → (P → Q) → OnOk r P → OnOk r Q
@@ -21,8 +21,3 @@ handed-on (Err y) called e x same was is = let equal : y ≡ e = cc in was ∙ a
 pub OnOk-both : {T E : Type 0} (r : Result T E) (P Q : Type 0) → OnOk r P → OnOk r Q → OnOk r (P × Q)
 OnOk-both (Ok x) P Q p q = (p, q)
 OnOk-both (Err e) P Q p q = tt
-
--- what follows for the value of a call that succeeds
-pub IfOk-map : {T E : Type 0} (r : Result T E) (P Q : T → Type 0) → ((x : T) → P x → Q x) → IfOk r P → IfOk r Q
-IfOk-map (Ok x) P Q f p = f x p
-IfOk-map (Err e) P Q f p = tt

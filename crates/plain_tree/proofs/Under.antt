@@ -19,9 +19,6 @@ same-key a b is =
     let parts = and_parts (eqb a.level b.level) (eqb a.at b.at) is in
     key-from-parts a b (eqb-true _ _ parts.0) (eqb-true _ _ parts.1)
 
-pub same-key-self : (a : Key) → same_key a a ≡ true
-same-key-self a = and_from (eqb a.level a.level) (eqb a.at a.at) (eq-eqb _ _ refl) (eq-eqb _ _ refl)
-
 -- the key is the top one, or lies below it
 pub record IsUnder (top k : Key) : Type 0 where
   pub level : top.level ≤ k.level

@@ -21,31 +21,11 @@ use Rattle.plain_tree.specs.declared.kept.Kept.TheVariants.{Reconstructed as Kep
 writes-name : (c : Command) (name other : List ℕ) → written_name c ≡ Some name → writes other c ≡ bytes_eq other name
 writes-name c name other is = ap (λ o. option_map_or (bytes_eq other) o false) is
 
-writes-none : (c : Command) (other : List ℕ) → written_name c ≡ None → writes other c ≡ false
-writes-none c other is = ap (λ o. option_map_or (bytes_eq other) o false) is
-
 -- no tree is written
 stays : (b : Bool) (depth : ℕ) (version before : Option Version) (kept : Option Kept) → Matches depth None version → Matches depth kept before → Matches depth kept (cond b (newer version before) before)
 stays true depth None before kept none has = has
 stays true depth (Some version) before kept none has = absurd none
 stays false depth version before kept none has = has
-
-pub after-nothing :
-    (depth : ℕ) (versions : Versions) (c : Command) (trees : BTreeMap (Bor (List ℕ)) Kept) →
-    HasVersions depth versions trees →
-    Matches depth None (written depth versions c) →
-    HasVersions depth (after depth versions c) trees
-after-nothing depth versions c trees has none = record {
-  at = λ other. stays (writes other c) depth (written depth versions c) (versions other) (kept_at trees other) none (has.at other);
-}
-
--- a command that writes no name leaves all as it was
-pub after-nameless :
-    (depth : ℕ) (versions : Versions) (c : Command) (trees : BTreeMap (Bor (List ℕ)) Kept) →
-    HasVersions depth versions trees →
-    written_name c ≡ None →
-    HasVersions depth (after depth versions c) trees
-after-nameless depth versions c trees has none = record { at = λ other. rw (writes-none c other none) (has.at other) }
 
 -- the tree that is written is put in place of the name's
 replaced : (b : Bool) (depth : ℕ) (version before : Option Version) (kept : Kept) (old : Option Kept) → Matches depth (Some kept) version → Matches depth old before → Matches depth (cond b (Some kept) old) (cond b (newer version before) before)

@@ -1,5 +1,5 @@
 -- What the program answers: a status, and the text that goes with it.
-use Rattle.std.specs.Prelude.{◌≡◌, ℕ, ◌≤◌, ◌⊎◌, nat_lt, List, [], ◌∷◌, ◌++◌, length, take, Option, Some, Result, Ok, Err, MatchOption, is_none, ⊤, codes, decimal, if◌then◌else◌}
+use Rattle.std.specs.Prelude.{◌≡◌, ℕ, ◌≤◌, ◌⊎◌, nat_lt, List, [], ◌++◌, length, take, Option, Some, Result, Ok, Err, MatchOption, is_none, ⊤, codes, decimal, if◌then◌else◌}
 use Rattle.std.specs.Io.KnownBytes.{Appends}
 use Rattle.outside.specs.Causes.{Rose}
 use Rattle.tree_model.specs.Jobs.{JobData, job_text, first_overflow}

@@ -1,4 +1,4 @@
-use Rattle.std.proofs.Common.{rules, ◌∙◌}
+use Rattle.std.proofs.Common.{rules}
 use Rattle.world_cli.proofs.Told.{too-long}
 use Rattle.world_cli.proofs.answer.answer_source.Goals as goal
 
