@@ -1,3 +1,4 @@
+//! The commands of a job's first lines, and the reading of one more line.
 ghost use Rattle.std.specs.Prelude.{◌≡◌, ℕ, List, [], ◌∷◌, ◌++◌, ◌+◌, ◌≤◌, true, IfOk, OnOk, OnErr};
 ghost use Rattle.tree_model.specs.Functions.{max_depth};
 ghost use Rattle.job_lang.specs.declared.fault.JobFault.{JobFault as FaultData};

@@ -9,6 +9,7 @@ use crate::fields::{
     function_at, keyword, name_at, no_more, number_at, one_name, size_at, two_names,
 };
 use crate::function_form::FunctionForm;
+use crate::job::MAX_DEPTH;
 use crate::verb::Verb;
 use job_words::Name;
 
@@ -62,8 +63,6 @@ pub enum Form {
     Fence,
 }
 
-const MAX_DEPTH: u64 = 16;
-
 /// The depth that the header `job 1 depth D` tells. None exactly where the words aren't that, or the depth is above 16.
 pub fn header_of(words: &[&[u8]]) -> Option<u8>
     ensures value { result ≡ header_of (texts words.now) }
@@ -74,7 +73,7 @@ pub fn header_of(words: &[&[u8]]) -> Option<u8>
     let words = keyword(b"depth", words)?;
     let (depth, words) = size_at(words)?;
     no_more(words)?;
-    if depth <= MAX_DEPTH {
+    if depth <= u64::from(MAX_DEPTH) {
         Some(depth as u8)
     } else {
         None

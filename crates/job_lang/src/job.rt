@@ -1,3 +1,4 @@
+//! Jobs: a depth, and commands that pass the checks.
 ghost use Rattle.std.specs.Prelude.{◌≡◌, ◌↔◌, ℕ, [], IfSome, IsSome, length, true, map};
 ghost use Rattle.job_lang.specs.Checks.{IsJob, are_accepted, trees_behind};
 ghost use Rattle.job_lang.specs.Data.{data_of};
@@ -26,7 +27,8 @@ impl Model for Job {
     ghost invariant = { λ j. IsJob (record { depth = j.depth; commands = map data_of j.commands.items }) };
 }
 
-const MAX_DEPTH: u8 = 16;
+/// The largest depth.
+pub const MAX_DEPTH: u8 = 16;
 
 // Whether each of the commands is accepted behind those before it.
 fn are_accepted(depth: u8, commands: &[Command]) -> bool

@@ -1,3 +1,4 @@
+//! Why a text gave no job.
 ghost use Rattle.std.specs.Prelude.{◌≡◌, Some};
 ghost use Rattle.job_lang.specs.declared.parse_error.ParseError.TheVariants.{OutOfMemory};
 

@@ -1,3 +1,4 @@
+//! The plan of a job, and whether a job may be traced.
 ghost use Rattle.std.specs.Prelude.{◌≡◌, IfOk};
 ghost use Rattle.job_lang.specs.Versions.{plan_of, trace_fits};
 

@@ -1,3 +1,4 @@
+//! The reading of a whole text: the header, and a command for each line after it.
 ghost use Rattle.std.specs.Prelude.{◌≡◌, ◌+◌, ◌<◌, ◌≤◌, ◌^◌, ℕ, List, [], length, IfOk};
 ghost use Rattle.std.specs.Str.Lines.{lines};
 ghost use Rattle.tree_model.specs.Functions.{max_depth};

@@ -1,3 +1,4 @@
+//! The versions that a command reads.
 /// The versions that a command reads.
 #[derive(Clone, Copy, Debug, PartialEq, Eq)]
 pub enum Sources {

@@ -1,3 +1,4 @@
+//! What one command of a plan reads and writes.
 use crate::sources::Sources;
 
 /// What a command of a job reads and writes. A version has the number of the command that writes it; commands are numbered

@@ -1,3 +1,4 @@
+//! Plans, as the list of their steps.
 ghost use Rattle.std.specs.Prelude.{◌≡◌};
 
 use crate::step::Step;

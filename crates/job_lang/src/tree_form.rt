@@ -1,3 +1,4 @@
+//! The two forms of a tree.
 /// One of the two forms that a tree is kept in.
 #[derive(Clone, Copy, Debug, PartialEq, Eq)]
 pub enum TreeForm {

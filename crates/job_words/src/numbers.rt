@@ -1,3 +1,4 @@
+//! Whole numbers.
 ghost use Rattle.std.specs.Prelude.{◌≡◌, ◌<◌, ◌^◌, IfSome};
 ghost use Rattle.job_words.specs.Numbers.{size_of_digits, number, signed};
 

@@ -1,3 +1,4 @@
+//! Why a job isn't done to its end.
 use tree_key::Text;
 
 /// Why a job isn't done to its end.

@@ -139,7 +139,7 @@ fn a_tree_is_refined_and_multiplied(rt: HostRuntime) -> Result<(), Fail> {
     let mut commands = Vec::new(alloc);
     commands.push(project(b"f", RAMP, 2)?)?;
     commands.push(print(b"f")?)?;
-    let refined = name(alloc, b"f")?;
+    let refined = name(b"f")?;
     commands.push(Command::Refine {
         name: refined,
         level: 1,
