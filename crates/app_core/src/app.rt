@@ -1,10 +1,10 @@
 //! The trait of an application, with its laws.
 ghost use Rattle.std.specs.Prelude.{◌≡◌, ◌≢◌, ◌↔◌, ℕ, ◌-◌, ◌^◌, ◌<◌, ◌≤◌, List, length, Option, Some, IsSome, IfSome, IfOk, slice_get, Contains};
 ghost use Rattle.std.specs.List.{AllByRecursion};
-ghost use Rattle.app_core.specs.declared.label.Label.{Label as Name};
-ghost use Rattle.app_core.specs.declared.label.CellName.{CellName as Entry};
-ghost use Rattle.app_core.specs.declared.effect.Effect.{Effect as Act};
-ghost use Rattle.app_core.specs.declared.outline.Outline.{Outline as Told};
+ghost use Rattle.app_core.specs.declared.label.Label.{Label as LabelData};
+ghost use Rattle.app_core.specs.declared.label.CellName.{CellName as CellNameData};
+ghost use Rattle.app_core.specs.declared.effect.Effect.{Effect as EffectData};
+ghost use Rattle.app_core.specs.declared.outline.Outline.{Outline as OutlineData};
 ghost use Rattle.app_core.specs.Given.{Given};
 ghost use Rattle.app_core.specs.Commands.{kind_of, IsCommand, IsWork, IsRankCount};
 ghost use Rattle.app_core.specs.Homes.{rank_within};
@@ -40,17 +40,17 @@ pub trait App: Facts + Sync {
     type Cell: Copy + Send + Sync;
 
     /// The starts of a command, where there are so many ranks.
-    ghost starting_of: { Self → ℕ → ℕ → List (Act Self.Unit Self.Value Self.Cell) };
+    ghost starting_of: { Self → ℕ → ℕ → List (EffectData Self.Unit Self.Value Self.Cell) };
 
     /// The future of a command's result.
-    ghost result_of: { Self → ℕ → Option Name };
+    ghost result_of: { Self → ℕ → Option LabelData };
 
-    ghost label_of: { Self → Self.Unit → Name };
+    ghost label_of: { Self → Self.Unit → LabelData };
 
-    ghost due_of: { Self → Self.Unit → Option Name };
+    ghost due_of: { Self → Self.Unit → Option LabelData };
 
     /// The futures that a unit needs, in order.
-    ghost needs_of: { Self → Self.Unit → List Name };
+    ghost needs_of: { Self → Self.Unit → List LabelData };
 
     /// The rank that the application's own rule names for a unit, if it names one.
     ghost home_rule_of: { Self → Self.Unit → ℕ → Option ℕ };
@@ -59,25 +59,25 @@ pub trait App: Facts + Sync {
     ghost home_of: { Self → Self.Unit → ℕ → ℕ };
 
     /// The rank that the application's own rule names for a future, if it names one.
-    ghost kept_rule_of: { Self → Name → ℕ → Option ℕ };
+    ghost kept_rule_of: { Self → LabelData → ℕ → Option ℕ };
 
     /// The rank that keeps a future, where there are so many ranks.
-    ghost kept_at: { Self → Name → ℕ → ℕ };
+    ghost kept_at: { Self → LabelData → ℕ → ℕ };
 
-    ghost reads_of: { Self → Self.Unit → List Entry };
+    ghost reads_of: { Self → Self.Unit → List CellNameData };
 
     ghost counts_of: { Self → Self.Unit → Option ℕ };
 
-    ghost step_of: { Self → Self.Unit → Given Self.Value Self.Cell → List (Act Self.Unit Self.Value Self.Cell) };
+    ghost step_of: { Self → Self.Unit → Given Self.Value Self.Cell → List (EffectData Self.Unit Self.Value Self.Cell) };
 
     /// The units of the application.
     ghost is_unit: { Self → Self.Unit → Type 0 };
 
     /// The right values of a future.
-    ghost right_value: { Self → Name → Self.Value → Type 0 };
+    ghost right_value: { Self → LabelData → Self.Value → Type 0 };
 
     /// The right cells of an entry.
-    ghost right_cell: { Self → Entry → Self.Cell → Type 0 };
+    ghost right_cell: { Self → CellNameData → Self.Cell → Type 0 };
 
     /// How many commands there are. They are numbered from 1.
     fn commands(&self) -> u32
@@ -186,14 +186,14 @@ pub trait App: Facts + Sync {
         ranks (starting_of app command ranks)) };
 
     /// A future that the starts bring up has the number of the command.
-    ghost starts_name_their_command: { (app : Self) (command ranks : ℕ) (future : Name)
+    ghost starts_name_their_command: { (app : Self) (command ranks : ℕ) (future : LabelData)
         → IsCommand (Self.kinds_of app) command → IsRankCount ranks
         → Names (outlines (label_of app) (due_of app) (home_of app) (kept_at app)
         ranks (starting_of app command ranks)) future
         → future.command ≡ command };
 
     /// A future that the starts bring up is the due of exactly one of them.
-    ghost starts_have_a_due_once: { (app : Self) (command ranks : ℕ) (future : Name)
+    ghost starts_have_a_due_once: { (app : Self) (command ranks : ℕ) (future : LabelData)
         → IsCommand (Self.kinds_of app) command → IsRankCount ranks
         → Names (outlines (label_of app) (due_of app) (home_of app) (kept_at app)
         ranks (starting_of app command ranks)) future
@@ -201,7 +201,7 @@ pub trait App: Facts + Sync {
         ranks (starting_of app command ranks)) };
 
     /// A future that the starts bring up, other than the command's result, is needed by exactly one of them.
-    ghost starts_need_others_once: { (app : Self) (command ranks : ℕ) (future : Name)
+    ghost starts_need_others_once: { (app : Self) (command ranks : ℕ) (future : LabelData)
         → IsCommand (Self.kinds_of app) command → IsRankCount ranks
         → Names (outlines (label_of app) (due_of app) (home_of app) (kept_at app)
         ranks (starting_of app command ranks)) future
@@ -234,15 +234,15 @@ pub trait App: Facts + Sync {
     ghost home_by_rule: { (app : Self) (unit : Self.Unit) (ranks : ℕ) → IsRankCount ranks
         → home_of app unit ranks ≡ rank_within ranks (home_rule_of app unit ranks) };
 
-    ghost future_home_below: { (app : Self) (future : Name) (ranks : ℕ)
+    ghost future_home_below: { (app : Self) (future : LabelData) (ranks : ℕ)
         → IsRankCount ranks → kept_at app future ranks < ranks };
 
     /// A future is kept at the rank that the application's rule names, and at rank 0 where it names none below `ranks`.
-    ghost future_home_by_rule: { (app : Self) (future : Name) (ranks : ℕ) → IsRankCount ranks
+    ghost future_home_by_rule: { (app : Self) (future : LabelData) (ranks : ℕ) → IsRankCount ranks
         → kept_at app future ranks ≡ rank_within ranks (kept_rule_of app future ranks) };
 
     /// A future is kept where the unit that needs it runs.
-    ghost needs_are_kept_at_home: { (app : Self) (unit : Self.Unit) (future : Name) (ranks : ℕ)
+    ghost needs_are_kept_at_home: { (app : Self) (unit : Self.Unit) (future : LabelData) (ranks : ℕ)
         → is_unit app unit → IsRankCount ranks
         → Contains (needs_of app unit) future → kept_at app future ranks ≡ home_of app unit ranks };
 
@@ -285,7 +285,7 @@ pub trait App: Facts + Sync {
         (Self.ranks_of app) (step_of app unit given)) };
 
     /// A future that a step brings up is the due of exactly one unit that it spawns.
-    ghost spawns_have_a_due_once: { (app : Self) (unit : Self.Unit) (given : Given Self.Value Self.Cell) (future : Name)
+    ghost spawns_have_a_due_once: { (app : Self) (unit : Self.Unit) (given : Given Self.Value Self.Cell) (future : LabelData)
         → is_unit app unit → Fits (needs_of app unit) (reads_of app unit) given
         → Names (outlines (label_of app) (due_of app) (home_of app) (kept_at app)
         (Self.ranks_of app) (step_of app unit given)) future
@@ -294,7 +294,7 @@ pub trait App: Facts + Sync {
         (Self.ranks_of app) (step_of app unit given)) };
 
     /// A future that a step brings up is needed by exactly one unit that it spawns.
-    ghost spawns_need_others_once: { (app : Self) (unit : Self.Unit) (given : Given Self.Value Self.Cell) (future : Name)
+    ghost spawns_need_others_once: { (app : Self) (unit : Self.Unit) (given : Given Self.Value Self.Cell) (future : LabelData)
         → is_unit app unit → Fits (needs_of app unit) (reads_of app unit) given
         → Names (outlines (label_of app) (due_of app) (home_of app) (kept_at app)
         (Self.ranks_of app) (step_of app unit given)) future
@@ -303,7 +303,7 @@ pub trait App: Facts + Sync {
         (Self.ranks_of app) (step_of app unit given)) };
 
     /// Any two units that put or erase one entry, on whatever inputs, run at one rank.
-    ghost entry_has_one_home: { (app : Self) (unit other : Self.Unit) (given more : Given Self.Value Self.Cell) (entry : Entry) (ranks : ℕ)
+    ghost entry_has_one_home: { (app : Self) (unit other : Self.Unit) (given more : Given Self.Value Self.Cell) (entry : CellNameData) (ranks : ℕ)
         → is_unit app unit → Fits (needs_of app unit) (reads_of app unit) given
         → is_unit app other → Fits (needs_of app other) (reads_of app other) more
         → IsRankCount ranks
@@ -338,28 +338,28 @@ pub trait App: Facts + Sync {
         (Self.ranks_of app) (step_of app unit given)) };
 
     /// What a label allows is done by a unit of the application with this label, on inputs that are right for it.
-    ghost allowed_is_a_step: { (app : Self) (label : Name) (allowed : List Told) → Self.may_do app label allowed
+    ghost allowed_is_a_step: { (app : Self) (label : LabelData) (allowed : List OutlineData) → Self.may_do app label allowed
         → (unit : Self.Unit) × (given : Given Self.Value Self.Cell) × is_unit app unit × (label_of app unit ≡ label)
         × AreRightInputs (right_value app) (right_cell app) (Self.right_size app)
         (needs_of app unit) (reads_of app unit) (counts_of app unit) (home_of app unit (Self.ranks_of app)) given
         × (allowed ≡ outlines (label_of app) (due_of app) (home_of app) (kept_at app)
         (Self.ranks_of app) (step_of app unit given)) };
 
-    ghost futures_are_told: { (app : Self) (future : Name)
+    ghost futures_are_told: { (app : Self) (future : LabelData)
         → Self.future_home_of app future ≡ kept_at app future (Self.ranks_of app) };
 
-    ghost reads_are_told: { (app : Self) (unit : Self.Unit) (entry : Entry) → is_unit app unit
+    ghost reads_are_told: { (app : Self) (unit : Self.Unit) (entry : CellNameData) → is_unit app unit
         → Contains (reads_of app unit) entry → Self.may_read app (label_of app unit) entry };
 
     ghost counts_are_told: { (app : Self) (unit : Self.Unit)
         → is_unit app unit → IfSome (counts_of app unit) (λ version. Self.may_count app (label_of app unit) version) };
 
     /// A unit reads entries that lie at its home.
-    ghost reads_are_at_home: { (app : Self) (unit : Self.Unit) (entry : Entry) → is_unit app unit
+    ghost reads_are_at_home: { (app : Self) (unit : Self.Unit) (entry : CellNameData) → is_unit app unit
         → Contains (reads_of app unit) entry → Self.entry_home_of app entry ≡ home_of app unit (Self.ranks_of app) };
 
     /// A unit puts and erases entries that lie at its home.
-    ghost writes_are_at_home: { (app : Self) (unit : Self.Unit) (given : Given Self.Value Self.Cell) (entry : Entry)
+    ghost writes_are_at_home: { (app : Self) (unit : Self.Unit) (given : Given Self.Value Self.Cell) (entry : CellNameData)
         → is_unit app unit → Fits (needs_of app unit) (reads_of app unit) given
         → Touches (outlines (label_of app) (due_of app) (home_of app) (kept_at app)
         (Self.ranks_of app) (step_of app unit given)) entry

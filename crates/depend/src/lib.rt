@@ -1,7 +1,7 @@
-//! Counted arguments: the values that a task waits for, each with a place of its own.
+//! Counted arguments: the values that a task waits for, each with a slot of its own.
 //!
-//! A task that needs the values of futures is ready once each of its places is filled. [`Waiting`] counts the empty
-//! places, so that filling one tells at once whether it was the last. This is after MADNESS, which counts the
+//! A task that needs the values of futures is ready once each of its slots is filled. [`Waiting`] counts the empty
+//! slots, so that filling one tells at once whether it was the last. This is after MADNESS, which counts the
 //! dependencies of a task down.
 #![tactic(auto)]
 

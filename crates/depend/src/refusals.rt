@@ -4,17 +4,17 @@ ghost use Rattle.std.specs.Prelude.{codes, Some};
 use std::error::Error;
 use std::fmt;
 
-/// The place was filled before. It hands back the value that was to fill it.
+/// The slot was filled before. It hands back the value that was to fill it.
 #[derive(Debug, PartialEq, Eq, Drop)]
 pub struct Twice<T> {
     pub value: T,
 }
 
 impl<T> fmt::Display for Twice<T> {
-    ghost output = { λ _. Some (codes "the place was filled before") };
+    ghost output = { λ _. Some (codes "the slot was filled before") };
 
     fn fmt<W: fmt::Write>(&self, f: &mut fmt::Formatter<W>) -> fmt::Result {
-        write!(f, "the place was filled before")
+        write!(f, "the slot was filled before")
     }
 }
 

@@ -23,7 +23,7 @@ fn a_task_with_no_need_is_ready(rt: HostRuntime) -> Result<(), Fail> {
     Ok(())
 }
 
-// Values come in from the last place to the first, and come out by place.
+// Values come in from the last slot to the first, and come out by slot.
 #[test]
 fn thirty_two_places_have_room(rt: HostRuntime) -> Result<(), Fail> {
     let mut waiting = Waiting::new(rt.alloc(), 32)?;
@@ -35,7 +35,7 @@ fn thirty_two_places_have_room(rt: HostRuntime) -> Result<(), Fail> {
         } else {
             Learned::Still(left)
         };
-        assert_eq!(rt; waiting.learn(left, left), Ok(answer), "place {left}");
+        assert_eq!(rt; waiting.learn(left, left), Ok(answer), "slot {left}");
     }
     assert!(rt; waiting.is_ready());
     assert!(rt; waiting.finish().into_iter().eq(0..32u32));
@@ -46,6 +46,6 @@ fn thirty_two_places_have_room(rt: HostRuntime) -> Result<(), Fail> {
 fn a_second_value_has_a_text(rt: HostRuntime) -> Result<(), Fail> {
     let twice = Twice { value: 7u8 };
     let text = twice.to_string(rt.alloc())?;
-    assert_eq!(rt; text.as_str(), "the place was filled before");
+    assert_eq!(rt; text.as_str(), "the slot was filled before");
     Ok(())
 }

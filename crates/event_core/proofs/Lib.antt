@@ -1,3 +1,3 @@
-pub mod BookParts
-pub mod LonePart
-pub mod BookExamples
+pub mod BookPartLemmas
+pub mod LonePartLemmas
+pub mod BookExampleLemmas

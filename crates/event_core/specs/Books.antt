@@ -11,7 +11,7 @@ use Rattle.event_lists.specs.declared.mark.Item.{Item}
 use Rattle.event_lists.specs.declared.mark.Mark.{Mark}
 use Rattle.event_lists.specs.Events.{same_lane, part, takes, number}
 use Rattle.event_lists.specs.Legal.{IsLane, Legal}
-use Rattle.event_laws.specs.Follows.{Plans, Doing, IsRun}
+use Rattle.event_laws.specs.Follows.{TaskEffects, Doing, IsRun}
 
 -- a lane with its events, in order
 pub record PartData : Type 0 where
@@ -57,7 +57,7 @@ IsLawful b = (log : List Mark) × Legal b.ranks b.workers log × HasParts log b
 
 -- and some such list follows an application
 abbrev pub BookFollows : List Doing → (Label → List Outline → Type 0) → BookData → Type 0
-BookFollows program may b = (log : List Mark) × (plans : Plans) × IsRun b.ranks b.workers program may plans log × HasParts log b
+BookFollows program may b = (log : List Mark) × (task_effects : TaskEffects) × IsRun b.ranks b.workers program may task_effects log × HasParts log b
 
 -- the event stands in a book on this lane, with so many later ones there
 abbrev pub StandsIn : BookData → LaneName → ℕ → Event → Type 0

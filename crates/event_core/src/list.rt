@@ -2,9 +2,9 @@
 ghost use Rattle.std.specs.Prelude.{◌≡◌, ◌↔◌, ◌≤◌, [], ◌∷◌, Ok, Err, true, false, OnOk, OnErr, IfOk, IsTrue, IsFalse, reverse};
 ghost use Rattle.app_core.specs.Commands.{IsRankCount};
 ghost use Rattle.event_lists.specs.declared.event.Event.TheVariants.{Receipt as Receives};
-ghost use Rattle.event_lists.specs.declared.receipt.Receipt.{Receipt as Received};
+ghost use Rattle.event_lists.specs.declared.receipt.Receipt.{Receipt as ReceiptData};
 ghost use Rattle.event_lists.specs.Quiet.{Quiet};
-ghost use Rattle.event_rules.specs.Listed.{on, IsLegal, Allows, AreInRange};
+ghost use Rattle.event_rules.specs.Listed.{on, HasLegalLog, Allows, AreInRange};
 
 use app_core::{CellName, OutOfMemory};
 use event_lists::{Bringer, Event, Future, Item, Kind, LaneName, Mark, Row};
@@ -76,8 +76,8 @@ impl EventList {
         ensures refused { IfOk result (λ added. IsFalse added → self.new ≡ self.old) }
         ensures no_memory { OnErr result (self.new ≡ self.old) }
         ensures wants_memory { OnErr result (Allows self.old lane event.now) }
-        ensures legal { IsLegal self.new }
-        ensures quiet { IfOk result (λ added. IsTrue added → (r : Received) → event.now ≡ Receives r → Quiet self.new.log self.old.log r) }
+        ensures legal { HasLegalLog self.new }
+        ensures quiet { IfOk result (λ added. IsTrue added → (r : ReceiptData) → event.now ≡ Receives r → Quiet self.new.log self.old.log r) }
     {
         if !allows(&*self, lane, event) {
             return Ok(false);
@@ -104,7 +104,7 @@ impl EventList {
     /// The events in order, the oldest first. They are legal.
     pub fn marks(&self) -> &[Mark]
         ensures marks { reverse result.now ≡ self.now.log }
-        ensures legal { IsLegal self.now }
+        ensures legal { HasLegalLog self.now }
     {
         &self.marks
     }

@@ -14,7 +14,7 @@ use Rattle.event_lists.specs.declared.mark.Item.TheVariants.{Message}
 use Rattle.event_lists.specs.declared.mark.Mark.{Mark}
 use Rattle.event_lists.specs.Events.{Begins, StandsOn, part, in_hand}
 use Rattle.event_lists.specs.Futures.{bringer, is_own, own_due, spawned_due, spawned_needs}
-use Rattle.event_laws.specs.Follows.{Plans, bin_of}
+use Rattle.event_laws.specs.Follows.{TaskEffects, bin_of}
 
 -- the label of the unit that an event spawns, with this in hand before it; with a message in hand a submission spawns
 -- none, since the unit's spawn is the message
@@ -53,9 +53,9 @@ abbrev pub HasOneBringer : List Mark → Type 0
 HasOneBringer log = (b c : Bringer) (l : Label) → Brought b l log → Brought c l log → b ≡ c
 
 -- for effects of one kind, puts or erases: among the effects of all begun tasks, carried out or not, no entry has two
-abbrev pub EffectsApart : (CellName → Outline) → Plans → Type 0
-EffectsApart f plans =
-    (r n i q m j : ℕ) (os ps : List Outline) (c : CellName) → plans r n ≡ Some os → plans q m ≡ Some ps
+abbrev pub EffectsApart : (CellName → Outline) → TaskEffects → Type 0
+EffectsApart f task_effects =
+    (r n i q m j : ℕ) (os ps : List Outline) (c : CellName) → task_effects r n ≡ Some os → task_effects q m ≡ Some ps
     → slice_get os i ≡ Some (f c) → slice_get ps j ≡ Some (f c) → (r ≡ q) × (n ≡ m) × (i ≡ j)
 
 -- an entry was put in its bin at rank r before task n of this rank was taken
@@ -67,5 +67,5 @@ pub record PutBefore (log : List Mark) (r n : ℕ) (c : CellName) : Type 0 where
   pub was_put : StandsOn (bin_of r c) (Put c) before
 
 -- each entry that a begun task erases was put before the task was taken
-abbrev pub ErasesPut : Plans → List Mark → Type 0
-ErasesPut plans log = (r n i : ℕ) (os : List Outline) (c : CellName) → plans r n ≡ Some os → slice_get os i ≡ Some (of.Erase c) → PutBefore log r n c
+abbrev pub ErasesPut : TaskEffects → List Mark → Type 0
+ErasesPut task_effects log = (r n i : ℕ) (os : List Outline) (c : CellName) → task_effects r n ≡ Some os → slice_get os i ≡ Some (of.Erase c) → PutBefore log r n c

@@ -9,23 +9,23 @@ use Rattle.event_lists.specs.declared.event.Parcel.TheVariants.{Unit as Spawned,
 use Rattle.event_lists.specs.declared.event.TaskName.{TaskName}
 use Rattle.event_lists.specs.declared.mark.Mark.{Mark}
 use Rattle.event_lists.specs.Events.{StandsOn, IsSubmitted}
-use Rattle.event_laws.specs.Follows.{Plans, carried_out}
+use Rattle.event_laws.specs.Follows.{TaskEffects, carried_out}
 
 -- a unit with this label was submitted at this rank, and each of its effects, which are these, was carried out
-pub record IsDone (may : Label → List Outline → Type 0) (plans : Plans) (log : List Mark) (rank : ℕ) (unit : Label) (os : List Outline) : Type 0 where
+pub record IsDone (may : Label → List Outline → Type 0) (task_effects : TaskEffects) (log : List Mark) (rank : ℕ) (unit : Label) (os : List Outline) : Type 0 where
   pub number : ℕ
   pub task : TaskName
   pub submitted : IsSubmitted rank number task log
   pub label : task.unit ≡ unit
-  pub plan : plans rank number ≡ Some os
+  pub plan : task_effects rank number ≡ Some os
   pub may_do : may unit os
   pub all : (i : ℕ) (o : Outline) → slice_get os i ≡ Some o → carried_out rank number i log ≡ true
 
 -- such a unit at this rank has this effect
-pub record HasDone (may : Label → List Outline → Type 0) (plans : Plans) (log : List Mark) (rank : ℕ) (o : Outline) : Type 0 where
+pub record HasDone (may : Label → List Outline → Type 0) (task_effects : TaskEffects) (log : List Mark) (rank : ℕ) (o : Outline) : Type 0 where
   pub unit : Label
   pub os : List Outline
-  pub done : IsDone may plans log rank unit os
+  pub done : IsDone may task_effects log rank unit os
   pub at : ℕ
   pub here : slice_get os at ≡ Some o
 

@@ -19,8 +19,8 @@ use Rattle.event_lists.specs.Events.{part, in_hand, is_taken, IsSubmitted}
 use Rattle.event_lists.specs.Legal.{Legal}
 
 -- the outlines of the effects of each task that was begun, by the task's rank and number
-abbrev pub Plans : Type 0
-Plans = ℕ → ℕ → Option (List Outline)
+abbrev pub TaskEffects : Type 0
+TaskEffects = ℕ → ℕ → Option (List Outline)
 
 -- whether an effect has its event on the lane of the hand that has the task; a put or an erase has it on a bin's lane
 abbrev pub is_own : Outline → Bool
@@ -90,11 +90,11 @@ deeds [] = 0
 deeds (e ∷ es) = (if is_done (in_hand es) e then 1 else 0) + deeds es
 
 abbrev pub effect_name : ℕ → ℕ → ℕ → EffectName
-effect_name r n i = record { rank = r; number = n; place = i }
+effect_name r n i = record { rank = r; number = n; index = i }
 
 abbrev pub is_effect : ℕ → ℕ → ℕ → Option EffectName → Bool
 is_effect r n i None = false
-is_effect r n i (Some f) = (r == f.rank) && ((n == f.number) && (i == f.place))
+is_effect r n i (Some f) = (r == f.rank) && ((n == f.number) && (i == f.index))
 
 -- whether the effect at place i of task n of rank r was carried out
 abbrev pub carried_out : ℕ → ℕ → ℕ → List Mark → Bool
@@ -104,10 +104,10 @@ carried_out r n i (x ∷ log) = is_effect r n i x.effect || carried_out r n i lo
 -- the event of a mark is the effect at place i of task n of its own rank, which was taken before, and whose effect at i
 -- no earlier event carried out. If it is on the hand's lane, then its turn has come: the earlier effects on the hand's
 -- lane are the events since the task was taken, and the puts and erases before it were carried out
-pub record CarriesOut (plans : Plans) (log : List Mark) (x : Mark) (r n i : ℕ) : Type 0 where
+pub record CarriesOut (task_effects : TaskEffects) (log : List Mark) (x : Mark) (r n i : ℕ) : Type 0 where
   pub os : List Outline
   pub o : Outline
-  pub plan : plans r n ≡ Some os
+  pub plan : task_effects r n ≡ Some os
   pub here : slice_get os i ≡ Some o
   pub says : Says x.lane.rank o x.event
   pub rank : r ≡ x.lane.rank
@@ -118,37 +118,37 @@ pub record CarriesOut (plans : Plans) (log : List Mark) (x : Mark) (r n i : ℕ)
   pub turn : is_own o ≡ true → owns (take i os) ≡ since (part x.lane log)
 
 -- all effects of a task that is to end were carried out; mine is the part of the lane that has it in hand
-pub record Finished (plans : Plans) (log : List Mark) (mine : List Event) (r n : ℕ) : Type 0 where
+pub record Finished (task_effects : TaskEffects) (log : List Mark) (mine : List Event) (r n : ℕ) : Type 0 where
   pub os : List Outline
-  pub plan : plans r n ≡ Some os
+  pub plan : task_effects r n ≡ Some os
   pub turn : owns os ≡ since mine
   pub before : (j : ℕ) (p : Outline) → slice_get os j ≡ Some p → is_own p ≡ false → carried_out r n j log ≡ true
 
 -- with nothing in hand an event is the next start of a main; with a task in hand it is an effect of this task; with a
 -- message in hand it is none of these
-abbrev pub Acts : List Doing → Plans → List Mark → Mark → List Event → Option Item → Type 0
-Acts program plans log x mine None = (o : Outline) × (slice_get (program_at x.lane.rank program) (deeds mine) ≡ Some (Start o)) × Says x.lane.rank o x.event × (x.effect ≡ None)
-Acts program plans log x mine (Some (Message r n)) = x.effect ≡ None
-Acts program plans log x mine (Some (Task r n)) = (i : ℕ) × CarriesOut plans log x r n i
+abbrev pub Acts : List Doing → TaskEffects → List Mark → Mark → List Event → Option Item → Type 0
+Acts program task_effects log x mine None = (o : Outline) × (slice_get (program_at x.lane.rank program) (deeds mine) ≡ Some (Start o)) × Says x.lane.rank o x.event × (x.effect ≡ None)
+Acts program task_effects log x mine (Some (Message r n)) = x.effect ≡ None
+Acts program task_effects log x mine (Some (Task r n)) = (i : ℕ) × CarriesOut task_effects log x r n i
 
 -- an entry is put or erased by an effect of a task, on the lane of its bin
-abbrev pub Stores : Plans → List Mark → Mark → CellName → Type 0
-Stores plans log x c = (r : ℕ) × (n : ℕ) × (i : ℕ) × CarriesOut plans log x r n i × (x.lane ≡ bin_of x.lane.rank c)
+abbrev pub Stores : TaskEffects → List Mark → Mark → CellName → Type 0
+Stores task_effects log x c = (r : ℕ) × (n : ℕ) × (i : ℕ) × CarriesOut task_effects log x r n i × (x.lane ≡ bin_of x.lane.rank c)
 
 -- an event goes on from the list before it as the application has it; mine is the lane's own part of that
-abbrev pub Goes : List Doing → Plans → List Mark → Mark → List Event → Event → Type 0
-Goes program plans log x mine (Sent n to p) = Acts program plans log x mine (in_hand mine)
-Goes program plans log x mine (Submitted n t) = Acts program plans log x mine (in_hand mine)
-Goes program plans log x mine (Gave f) = Acts program plans log x mine (in_hand mine)
-Goes program plans log x mine (Put c) = Stores plans log x c
-Goes program plans log x mine (Erased c) = Stores plans log x c
-Goes program plans log x mine (Ran n r t) = Finished plans log mine r t × (x.effect ≡ None)
-Goes program plans log x mine (Enter f) = (slice_get (program_at x.lane.rank program) (deeds mine) ≡ Some Wait) × (x.effect ≡ None)
-Goes program plans log x mine _ = x.effect ≡ None
+abbrev pub Goes : List Doing → TaskEffects → List Mark → Mark → List Event → Event → Type 0
+Goes program task_effects log x mine (Sent n to p) = Acts program task_effects log x mine (in_hand mine)
+Goes program task_effects log x mine (Submitted n t) = Acts program task_effects log x mine (in_hand mine)
+Goes program task_effects log x mine (Gave f) = Acts program task_effects log x mine (in_hand mine)
+Goes program task_effects log x mine (Put c) = Stores task_effects log x c
+Goes program task_effects log x mine (Erased c) = Stores task_effects log x c
+Goes program task_effects log x mine (Ran n r t) = Finished task_effects log mine r t × (x.effect ≡ None)
+Goes program task_effects log x mine (Enter f) = (slice_get (program_at x.lane.rank program) (deeds mine) ≡ Some Wait) × (x.effect ≡ None)
+Goes program task_effects log x mine _ = x.effect ≡ None
 
-abbrev pub FollowsBy : List Doing → Plans → List Mark → Type 0
-FollowsBy program plans [] = Unit {0}
-FollowsBy program plans (x ∷ log) = Goes program plans log x (part x.lane log) x.event × FollowsBy program plans log
+abbrev pub FollowsBy : List Doing → TaskEffects → List Mark → Type 0
+FollowsBy program task_effects [] = Unit {0}
+FollowsBy program task_effects (x ∷ log) = Goes program task_effects log x (part x.lane log) x.event × FollowsBy program task_effects log
 
 -- task n of rank r was submitted and taken, and a unit with its label may have these effects
 pub record Planned (may : Label → List Outline → Type 0) (log : List Mark) (r n : ℕ) (os : List Outline) : Type 0 where
@@ -158,11 +158,11 @@ pub record Planned (may : Label → List Outline → Type 0) (log : List Mark) (
   pub may_do : may task.unit os
 
 -- each event goes on as the application has it, where each begun task has effects that a unit with its label may have
-pub record Follows (program : List Doing) (may : Label → List Outline → Type 0) (plans : Plans) (log : List Mark) : Type 0 where
-  pub planned : (r n : ℕ) (os : List Outline) → plans r n ≡ Some os → Planned may log r n os
-  pub goes : FollowsBy program plans log
+pub record Follows (program : List Doing) (may : Label → List Outline → Type 0) (task_effects : TaskEffects) (log : List Mark) : Type 0 where
+  pub planned : (r n : ℕ) (os : List Outline) → task_effects r n ≡ Some os → Planned may log r n os
+  pub goes : FollowsBy program task_effects log
 
 -- a legal list of so many ranks, with so many workers each, that follows
-pub record IsRun (ranks workers : ℕ) (program : List Doing) (may : Label → List Outline → Type 0) (plans : Plans) (log : List Mark) : Type 0 where
+pub record IsRun (ranks workers : ℕ) (program : List Doing) (may : Label → List Outline → Type 0) (task_effects : TaskEffects) (log : List Mark) : Type 0 where
   pub legal : Legal ranks workers log
-  pub follows : Follows program may plans log
+  pub follows : Follows program may task_effects log

@@ -14,7 +14,7 @@ use Rattle.event_lists.specs.declared.receipt.Receipt.{Receipt}
 use Rattle.event_lists.specs.declared.mark.Mark.{Mark}
 use Rattle.event_lists.specs.Events.{part, IsSent, IsSubmitted}
 use Rattle.event_lists.specs.Bins.{is_put}
-use Rattle.event_laws.specs.Follows.{Plans, Doing, Start, IsRun, program_from, bin_of}
+use Rattle.event_laws.specs.Follows.{TaskEffects, Doing, Start, IsRun, program_from, bin_of}
 use Rattle.event_laws.specs.Trees.{unit_of}
 use Rattle.event_laws.specs.Apart.{Apart, spawned, EffectsApart}
 use Rattle.event_laws.specs.Stages.{fences_in, IsStaged, Comes, IsOfFence, AreUnits, UnitHas}
@@ -25,42 +25,42 @@ use Rattle.event_laws.specs.Totals.{totals_of}
 -- each task that was submitted before the receipt has carried out all of its effects
 abbrev pub TasksAreDone : ℕ → List Doing → (Label → List Outline → Type 0) → Type 0
 TasksAreDone ranks program may =
-    (workers : ℕ) (plans : Plans) (log before : List Mark) (x : Mark) (r : Receipt) → IsRun ranks workers program may plans log → HasReceipt log before x r
-    → (rank number : ℕ) (t : TaskName) → IsSubmitted rank number t before → (os : List Outline) × IsDone may plans before rank t.unit os
+    (workers : ℕ) (task_effects : TaskEffects) (log before : List Mark) (x : Mark) (r : Receipt) → IsRun ranks workers program may task_effects log → HasReceipt log before x r
+    → (rank number : ℕ) (t : TaskName) → IsSubmitted rank number t before → (os : List Outline) × IsDone may task_effects before rank t.unit os
 
 -- what each message carries that was sent before the receipt was handed on at the rank that it was sent to
 abbrev pub MessagesAreHandedOn : ℕ → List Doing → (Label → List Outline → Type 0) → Type 0
 MessagesAreHandedOn ranks program may =
-    (workers : ℕ) (plans : Plans) (log before : List Mark) (x : Mark) (r : Receipt) → IsRun ranks workers program may plans log → HasReceipt log before x r
+    (workers : ℕ) (task_effects : TaskEffects) (log before : List Mark) (x : Mark) (r : Receipt) → IsRun ranks workers program may task_effects log → HasReceipt log before x r
     → (rank number to : ℕ) (p : Parcel) → IsSent rank number to p before → IsHandedOn to p before
 
 -- each start that comes before the fence in the program has its unit done at its home
 abbrev pub StartsAreDone : ℕ → List Doing → (Label → List Outline → Type 0) → Type 0
 StartsAreDone ranks program may =
-    (workers : ℕ) (plans : Plans) (log before : List Mark) (x : Mark) (r : Receipt) → IsRun ranks workers program may plans log → HasReceipt log before x r
+    (workers : ℕ) (task_effects : TaskEffects) (log before : List Mark) (x : Mark) (r : Receipt) → IsRun ranks workers program may task_effects log → HasReceipt log before x r
     → (k : ℕ) (u : Label) (d : Option Label) (ns : List Label) (home : ℕ) → slice_get program k ≡ Some (Start (of.Spawn u d ns home)) → fences_in (take k program) < r.fence
-    → (os : List Outline) × IsDone may plans before home u os
+    → (os : List Outline) × IsDone may task_effects before home u os
 
 -- and so has each spawn of a unit that is done
 abbrev pub SpawnsAreDone : ℕ → List Doing → (Label → List Outline → Type 0) → Type 0
 SpawnsAreDone ranks program may =
-    (workers : ℕ) (plans : Plans) (log before : List Mark) (x : Mark) (r : Receipt) → IsRun ranks workers program may plans log → HasReceipt log before x r
-    → (rank : ℕ) (p : Label) (os : List Outline) → IsDone may plans before rank p os
+    (workers : ℕ) (task_effects : TaskEffects) (log before : List Mark) (x : Mark) (r : Receipt) → IsRun ranks workers program may task_effects log → HasReceipt log before x r
+    → (rank : ℕ) (p : Label) (os : List Outline) → IsDone may task_effects before rank p os
     → (i : ℕ) (u : Label) (d : Option Label) (ns : List Label) (home : ℕ) → slice_get os i ≡ Some (of.Spawn u d ns home)
-    → (qs : List Outline) × IsDone may plans before home u qs
+    → (qs : List Outline) × IsDone may task_effects before home u qs
 
 -- a task that is before the fence by its label was submitted before the receipt
 abbrev pub NothingComesLater : ℕ → List Doing → (Label → List Outline → Type 0) → Type 0
 NothingComesLater ranks program may =
     (stage : Label → ℕ) → IsStaged program may stage
-    → (workers : ℕ) (plans : Plans) (log before : List Mark) (x : Mark) (r : Receipt) → IsRun ranks workers program may plans log → HasReceipt log before x r
+    → (workers : ℕ) (task_effects : TaskEffects) (log before : List Mark) (x : Mark) (r : Receipt) → IsRun ranks workers program may task_effects log → HasReceipt log before x r
     → (rank number : ℕ) (t : TaskName) → IsSubmitted rank number t log → stage t.unit < r.fence → IsSubmitted rank number t before
 
 -- and what was submitted before it comes up, and is before the fence by its label
 abbrev pub NothingComesEarlier : ℕ → List Doing → (Label → List Outline → Type 0) → Type 0
 NothingComesEarlier ranks program may =
     (stage : Label → ℕ) → IsStaged program may stage
-    → (workers : ℕ) (plans : Plans) (log before : List Mark) (x : Mark) (r : Receipt) → IsRun ranks workers program may plans log → HasReceipt log before x r
+    → (workers : ℕ) (task_effects : TaskEffects) (log before : List Mark) (x : Mark) (r : Receipt) → IsRun ranks workers program may task_effects log → HasReceipt log before x r
     → (rank number : ℕ) (t : TaskName) → IsSubmitted rank number t before → Comes program may t.unit rank × (stage t.unit < r.fence)
 
 -- where labels have their commands, they tell how many fences come before
@@ -73,15 +73,15 @@ StagesAreTold kinds starts may =
 -- an entry lies in its bin at the receipt where a unit that is done puts it and none erases it
 abbrev pub EntriesLie : ℕ → List Doing → (Label → List Outline → Type 0) → Type 0
 EntriesLie ranks program may =
-    (workers : ℕ) (plans : Plans) (log before : List Mark) (x : Mark) (r : Receipt) → IsRun ranks workers program may plans log → HasReceipt log before x r
-    → EffectsApart (λ c. of.Put c) plans → (l : LaneName) (c : CellName)
-    → (is_put c (part l before) ≡ true) ↔ (HasDone may plans before l.rank (of.Put c) × (HasDone may plans before l.rank (of.Erase c) → ⊥) × (l ≡ bin_of l.rank c))
+    (workers : ℕ) (task_effects : TaskEffects) (log before : List Mark) (x : Mark) (r : Receipt) → IsRun ranks workers program may task_effects log → HasReceipt log before x r
+    → EffectsApart (λ c. of.Put c) task_effects → (l : LaneName) (c : CellName)
+    → (is_put c (part l before) ≡ true) ↔ (HasDone may task_effects before l.rank (of.Put c) × (HasDone may task_effects before l.rank (of.Erase c) → ⊥) × (l ≡ bin_of l.rank c))
 
 -- where only units before the fence put or erase the entry, it lies there from then on, or not
 abbrev pub EntriesStay : ℕ → List Doing → (Label → List Outline → Type 0) → Type 0
 EntriesStay ranks program may =
     (stage : Label → ℕ) → IsStaged program may stage
-    → (workers : ℕ) (plans : Plans) (log before : List Mark) (x : Mark) (r : Receipt) → IsRun ranks workers program may plans log → HasReceipt log before x r
+    → (workers : ℕ) (task_effects : TaskEffects) (log before : List Mark) (x : Mark) (r : Receipt) → IsRun ranks workers program may task_effects log → HasReceipt log before x r
     → (c : CellName) → ((p : Label) (os : List Outline) (i : ℕ) (o : Outline) → may p os → slice_get os i ≡ Some o → (o ≡ of.Put c) ⊎ (o ≡ of.Erase c) → stage p < r.fence)
     → (l : LaneName) → is_put c (part l log) ≡ is_put c (part l before)
 
@@ -90,9 +90,9 @@ abbrev pub UnitsAreDone : ℕ → List Doing → (Label → List Outline → Typ
 UnitsAreDone ranks program may =
     (stage : Label → ℕ) (test : Label → Bool) (plan : Label → List Outline) (home : Label → ℕ) (us : List Label)
     → IsStaged program may stage → AreUnits program may (λ u. test u ≡ true) plan home us
-    → (workers : ℕ) (plans : Plans) (log before : List Mark) (x : Mark) (r : Receipt) → IsRun ranks workers program may plans log → HasReceipt log before x r
+    → (workers : ℕ) (task_effects : TaskEffects) (log before : List Mark) (x : Mark) (r : Receipt) → IsRun ranks workers program may task_effects log → HasReceipt log before x r
     → IsOfFence may stage r.fence (λ u. test u ≡ true)
-    → ((u : Label) → Contains us u → IsDone may plans before (home u) u (plan u))
+    → ((u : Label) → Contains us u → IsDone may task_effects before (home u) u (plan u))
     × ((rank number : ℕ) (t : TaskName) → IsSubmitted rank number t before → test t.unit ≡ true → Contains us t.unit × (rank ≡ home t.unit))
 
 -- an entry that only such units put or erase lies in its bin, from the receipt on, where one of them puts it and none
@@ -101,8 +101,8 @@ abbrev pub UnitsFillTheBins : ℕ → List Doing → (Label → List Outline →
 UnitsFillTheBins ranks program may =
     (stage : Label → ℕ) (test : Label → Bool) (plan : Label → List Outline) (home : Label → ℕ) (us : List Label)
     → IsStaged program may stage → AreUnits program may (λ u. test u ≡ true) plan home us
-    → (workers : ℕ) (plans : Plans) (log before : List Mark) (x : Mark) (r : Receipt) → IsRun ranks workers program may plans log → HasReceipt log before x r
-    → IsOfFence may stage r.fence (λ u. test u ≡ true) → EffectsApart (λ c. of.Put c) plans
+    → (workers : ℕ) (task_effects : TaskEffects) (log before : List Mark) (x : Mark) (r : Receipt) → IsRun ranks workers program may task_effects log → HasReceipt log before x r
+    → IsOfFence may stage r.fence (λ u. test u ≡ true) → EffectsApart (λ c. of.Put c) task_effects
     → (c : CellName) → ((p : Label) (os : List Outline) (i : ℕ) (o : Outline) → may p os → slice_get os i ≡ Some o → (o ≡ of.Put c) ⊎ (o ≡ of.Erase c) → test p ≡ true)
     → (l : LaneName)
     → ((is_put c (part l before) ≡ true) ↔ (UnitHas plan home us l.rank (of.Put c) × (UnitHas plan home us l.rank (of.Erase c) → ⊥) × (l ≡ bin_of l.rank c)))
@@ -113,6 +113,6 @@ UnitsFillTheBins ranks program may =
 abbrev pub TotalsAreCounted : ℕ → List Doing → (Label → List Outline → Type 0) → Type 0
 TotalsAreCounted ranks program may =
     (stage : Label → ℕ) (plan : Label → List Outline) (home : Label → ℕ) (us : List Label) → IsStaged program may stage
-    → (workers : ℕ) (plans : Plans) (log before : List Mark) (x : Mark) (r : Receipt) → IsRun ranks workers program may plans log → HasReceipt log before x r
+    → (workers : ℕ) (task_effects : TaskEffects) (log before : List Mark) (x : Mark) (r : Receipt) → IsRun ranks workers program may task_effects log → HasReceipt log before x r
     → Apart (spawned log) → AreUnits program may (λ u. stage u < r.fence) plan home us
     → all_told r ≡ totals_of r.fence program plan home us

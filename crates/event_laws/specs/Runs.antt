@@ -10,8 +10,8 @@ use Rattle.event_lists.specs.declared.event.Event.TheVariants.{TookTask, Submitt
 use Rattle.event_lists.specs.declared.event.TaskName.{TaskName}
 use Rattle.event_lists.specs.declared.mark.Mark.{Mark}
 use Rattle.event_lists.specs.Events.{main_of}
-use Rattle.event_lists.specs.Runs.{label, main_does}
-use Rattle.event_laws.specs.Follows.{Plans, Doing, FollowsBy, program_from, effect_name}
+use Rattle.event_lists.specs.TaskRuns.{label, main_does}
+use Rattle.event_laws.specs.Follows.{TaskEffects, Doing, FollowsBy, program_from, effect_name}
 
 abbrev pub entry : CellName
 entry = record { version = 1; place = 2 }
@@ -34,9 +34,9 @@ abbrev pub program : List Doing
 program = program_from 1 (Work ∷ []) (λ c. of.Spawn (label 1) (Some (label 9)) [] 0 ∷ [])
 
 -- task 0 was begun
-abbrev pub plans : Plans
-plans zero zero = Some effects
-plans _ _ = None
+abbrev pub task_effects : TaskEffects
+task_effects zero zero = Some effects
+task_effects _ _ = None
 
 -- an event of the main that carries out the effect at a place of task 0
 abbrev pub acts : ℕ → Event → Mark
@@ -76,5 +76,5 @@ put_elsewhere = puts_in 3 ∷ (acts 0 (Submitted 1 second_unit) ∷ begun)
 abbrev pub ran_too_early : List Mark
 ran_too_early = main_does 0 (Ran 0 0 0) ∷ has_put
 
-abbrev pub IsRefused : List Mark → Type 0
-IsRefused log = FollowsBy program plans log → ⊥
+abbrev pub DoesNotFollow : List Mark → Type 0
+DoesNotFollow log = FollowsBy program task_effects log → ⊥

@@ -38,7 +38,7 @@ pub record AreUnits (program : List Doing) (may : Label → List Outline → Typ
   pub apart : Apart us
   pub all : (u : Label) (rank : ℕ) → Comes program may u rank → Of u → Contains us u × (rank ≡ home u)
   pub only : (u : Label) → Contains us u → Comes program (AsPlanned plan Of) u (home u) × Of u
-  pub plans : (u : Label) (os : List Outline) → Contains us u → may u os → os ≡ plan u
+  pub task_effects : (u : Label) (os : List Outline) → Contains us u → may u os → os ≡ plan u
 
 -- one of them is at this rank and has this effect
 pub record UnitHas (plan : Label → List Outline) (home : Label → ℕ) (us : List Label) (rank : ℕ) (o : Outline) : Type 0 where

@@ -16,7 +16,7 @@ unit_of (of.Erase c) = None
 
 -- the labels of units form a tree: each tells its parent, the label of the unit that spawns it, or that a command starts
 -- it; and no program and no list of effects has it twice
-pub record IsTree (program : List Doing) (may : Label → List Outline → Type 0) (parent : Label → Option Label) : Type 0 where
+pub record LabelsAreTree (program : List Doing) (may : Label → List Outline → Type 0) (parent : Label → Option Label) : Type 0 where
   pub starts : (k : ℕ) (o : Outline) (u : Label) → slice_get program k ≡ Some (Start o) → unit_of o ≡ Some u → parent u ≡ None
   pub steps : (p : Label) (os : List Outline) (i : ℕ) (o : Outline) (u : Label) → may p os → slice_get os i ≡ Some o → unit_of o ≡ Some u → parent u ≡ Some p
   pub start_once : (k j : ℕ) (o q : Outline) (u : Label) → slice_get program k ≡ Some (Start o) → slice_get program j ≡ Some (Start q) → unit_of o ≡ Some u → unit_of q ≡ Some u → k ≡ j

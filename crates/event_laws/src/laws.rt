@@ -3,11 +3,11 @@
 //!
 //! An application meets the trait [`ListLaws`](crate::ListLaws) by these, from facts on its plain data alone.
 ghost use Rattle.std.specs.Prelude.{◌≡◌, ◌<◌, true, ℕ};
-ghost use Rattle.app_core.specs.declared.label.CellName.{CellName as Entry};
+ghost use Rattle.app_core.specs.declared.label.CellName.{CellName as CellNameData};
 ghost use Rattle.event_lists.specs.Legal.{IsLane};
 ghost use Rattle.event_laws.specs.Follows.{bin_of, program_from, IsRun};
 ghost use Rattle.event_laws.specs.Laws.{SpawnsAreApart, TasksAreApart, BringersAreOne, EntriesAreApart, ErasesComeLater, PutsFindNothing, ErasesFindAnEntry};
-ghost use Rattle.event_laws.specs.Runs.{program, may_do, plans, whole_run, started_twice, effect_left_out, given_too_early, put_elsewhere, ran_too_early, IsRefused};
+ghost use Rattle.event_laws.specs.Runs.{program, may_do, task_effects, whole_run, started_twice, effect_left_out, given_too_early, put_elsewhere, ran_too_early, DoesNotFollow};
 
 use app_core::Facts;
 
@@ -15,12 +15,12 @@ use app_core::Facts;
 /// an effect is left out, the due is given before the entry is put, the entry is put in another bin, or the task ends
 /// before it gave its due.
 pub fn a_small_run_is_judged()
-    ensures whole_run { IsRun 1 0 program may_do plans whole_run }
-    ensures started_twice { IsRefused started_twice }
-    ensures effect_left_out { IsRefused effect_left_out }
-    ensures given_before_the_put { IsRefused given_too_early }
-    ensures put_in_another_bin { IsRefused put_elsewhere }
-    ensures ran_before_the_give { IsRefused ran_too_early }
+    ensures whole_run { IsRun 1 0 program may_do task_effects whole_run }
+    ensures started_twice { DoesNotFollow started_twice }
+    ensures effect_left_out { DoesNotFollow effect_left_out }
+    ensures given_before_the_put { DoesNotFollow given_too_early }
+    ensures put_in_another_bin { DoesNotFollow put_elsewhere }
+    ensures ran_before_the_give { DoesNotFollow ran_too_early }
 {}
 
 /// Where each unit's label tells the label of the unit that spawns it, no two spawns of a run have one label, and no
@@ -59,7 +59,7 @@ pub fn an_entry_to_erase_is_present()
 
 /// The bin of an entry is one of the 16 of its rank, and its lane is there where the rank is.
 pub fn a_rank_has_sixteen_bins()
-    ensures number { (rank : ℕ) (entry : Entry) → (bin_of rank entry).number < 16 }
-    ensures lane { (ranks workers rank : ℕ) (entry : Entry) → rank < ranks → IsLane ranks workers (bin_of rank entry) }
-    ensures is_bin { (rank : ℕ) (entry : Entry) → ((bin_of rank entry).rank ≡ rank) × ((bin_of rank entry).bin ≡ true) }
+    ensures number { (rank : ℕ) (entry : CellNameData) → (bin_of rank entry).number < 16 }
+    ensures lane { (ranks workers rank : ℕ) (entry : CellNameData) → rank < ranks → IsLane ranks workers (bin_of rank entry) }
+    ensures is_bin { (rank : ℕ) (entry : CellNameData) → ((bin_of rank entry).rank ≡ rank) × ((bin_of rank entry).bin ≡ true) }
 {}

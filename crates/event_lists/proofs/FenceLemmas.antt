@@ -15,7 +15,7 @@ use Rattle.event_lists.specs.Events.{same_lane, main_of, part, Begins}
 use Rattle.event_lists.specs.Fences.{Fences, IsComplete, IsReady, InOrder, Agree, RowsAre, Receivable, total_sent, total_handled, sent_in, handled_in, row_of, is_receipt, has_receipt}
 use Rattle.event_lists.specs.Legal.{Legal, May}
 use Rattle.event_lists.specs.OwnEvents.{has_receipt_on_lane}
-use Rattle.event_lists.proofs.Moments.{row_kept}
+use Rattle.event_lists.proofs.MomentLemmas.{row_kept}
 use Rattle.event_lists.proofs.LaneLemmas.{same_lane_refl}
 use Rattle.event_lists.proofs.ListLemmas.{legal_begins}
 use Rattle.event_lists.proofs.SumLemmas.{same_sum}

@@ -21,14 +21,14 @@ use Rattle.event_lists.specs.Fences.{row_of, IsComplete}
 use Rattle.event_lists.specs.Quiet.{Quiet, named}
 use Rattle.event_lists.specs.Laws.{Received, is_work}
 use Rattle.event_lists.specs.Legal.{Legal}
-use Rattle.event_lists.proofs.Kept.{due_given}
+use Rattle.event_lists.proofs.LastingDueLemmas.{due_given}
 use Rattle.event_lists.proofs.ListLemmas.{legal_begins, begins_tail}
 use Rattle.event_lists.proofs.WaitingLemmas.{Holds, waiting, all_ended, made_now, made_waits, hand_waits}
 use Rattle.event_lists.proofs.ItemLemmas.{took_fresh}
 use Rattle.event_lists.proofs.FenceLemmas.{received, complete_lasts}
-use Rattle.event_lists.proofs.Agreed.{rows_are_counts, settled, settled_end, rows_are_equal}
-use Rattle.event_lists.proofs.Cuts.{agreed, is_cut, all_handled, all_ran}
-use Rattle.event_lists.proofs.Given.{all_given}
+use Rattle.event_lists.proofs.AgreedPassLemmas.{rows_are_counts, settled, settled_end, rows_are_equal}
+use Rattle.event_lists.proofs.CutLemmas.{agreed, is_cut, all_handled, all_ran}
+use Rattle.event_lists.proofs.GiveLemmas.{all_given}
 
 -- a receipt has a row for each rank
 pub receipt_length : (ranks workers : ℕ) (before : List Mark) (x : Mark) (r : Receipt) → Legal ranks workers (x ∷ before) → x.event ≡ Receives r → length r.rows ≡ ranks

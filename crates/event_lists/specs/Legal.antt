@@ -28,3 +28,7 @@ pub record May (ranks workers : ℕ) (log : List Mark) (x : Mark) : Type 0 where
 abbrev pub Legal : ℕ → ℕ → List Mark → Type 0
 Legal ranks workers [] = Unit {0}
 Legal ranks workers (x ∷ log) = May ranks workers log x × Legal ranks workers log
+
+-- some event of the list doesn't
+abbrev pub Illegal : ℕ → ℕ → List Mark → Type 0
+Illegal ranks workers log = Legal ranks workers log → ⊥

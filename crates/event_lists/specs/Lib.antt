@@ -11,6 +11,6 @@ pub mod Quiet
 pub mod Laws
 pub mod OwnEvents
 pub mod LastingLaws
-pub mod Books
-pub mod Runs
+pub mod FenceRuns
+pub mod TaskRuns
 pub mod RefusedRuns

@@ -7,7 +7,7 @@ use Rattle.event_lists.specs.declared.event.TaskName.{TaskName}
 use Rattle.event_lists.specs.declared.receipt.Receipt.{Receipt}
 use Rattle.event_lists.specs.declared.mark.Mark.{Mark}
 use Rattle.event_lists.specs.Legal.{Legal}
-use Rattle.event_lists.specs.Runs.{label, giver, needer, main_does}
+use Rattle.event_lists.specs.TaskRuns.{label, giver, needer, main_does}
 
 -- the list is legal with the event at its end
 abbrev pub Accepts : ℕ → ℕ → List Mark → Mark → Type 0

@@ -1,8 +1,8 @@
 //! Laws about legal lists of events: each function's contract is a law, and its body is empty.
 ghost use Rattle.event_lists.specs.Laws.{BeginningsAreLegal, MessagesAreHandledOnce, TasksRunOnce, FuturesAreGivenOnce, DuesAreNamed, NeedsAreNamed, CountsAreFrozen, NothingIsOpen, NothingChanges, NothingIsDone, DuesAreGiven, ReceiptsAreQuiet};
-ghost use Rattle.event_lists.specs.Legal.{Legal};
-ghost use Rattle.event_lists.specs.Books.{first_book, one_pass, second_book, one_reading, third_book, IsIllegal};
-ghost use Rattle.event_lists.specs.Runs.{whole_run, taken_too_early, handled_too_early, ran_too_early, IsRefused};
+ghost use Rattle.event_lists.specs.Legal.{Legal, Illegal};
+ghost use Rattle.event_lists.specs.FenceRuns.{first_run, one_pass, second_run, one_reading, third_run};
+ghost use Rattle.event_lists.specs.TaskRuns.{whole_run, taken_too_early, handled_too_early, ran_too_early};
 
 /// How a legal list began is legal.
 pub fn beginnings_are_legal()
@@ -56,11 +56,11 @@ pub fn receipts_are_quiet()
 /// is legal up to its receipt, which comes after a single pass, and not with it; the third up to its third event, which
 /// reads submitted before ran, and not with it.
 pub fn small_runs_are_judged()
-    ensures two_passes_and_a_receipt { Legal 1 0 first_book }
+    ensures two_passes_and_a_receipt { Legal 1 0 first_run }
     ensures one_pass { Legal 1 0 one_pass }
-    ensures receipt_after_one_pass { IsIllegal second_book }
+    ensures receipt_after_one_pass { Illegal 1 0 second_run }
     ensures one_reading { Legal 1 0 one_reading }
-    ensures submitted_before_ran { IsIllegal third_book }
+    ensures submitted_before_ran { Illegal 1 0 third_run }
 {}
 
 /// A run of two ranks in which rank 0 sends a unit to rank 1, which runs it and sends its future's value back, and then
@@ -68,7 +68,7 @@ pub fn small_runs_are_judged()
 /// handled before its unit was submitted, or the unit ends without giving its due.
 pub fn a_run_with_tasks_is_judged()
     ensures whole_run { Legal 2 0 whole_run }
-    ensures taken_before_a_need_is_given { IsRefused taken_too_early }
-    ensures handled_before_the_submission { IsRefused handled_too_early }
-    ensures ran_with_a_due_kept { IsRefused ran_too_early }
+    ensures taken_before_a_need_is_given { Illegal 2 0 taken_too_early }
+    ensures handled_before_the_submission { Illegal 2 0 handled_too_early }
+    ensures ran_with_a_due_kept { Illegal 2 0 ran_too_early }
 {}

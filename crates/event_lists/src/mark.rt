@@ -12,12 +12,12 @@ pub enum Item {
     Task { rank: u32, number: u64 },
 }
 
-/// The effect that an event carried out: the one at a place of a task.
+/// The effect that an event carried out: that of a task, by its index in the task's step.
 #[derive(Clone, Copy, Debug, PartialEq, Eq)]
 pub struct EffectName {
     pub rank: u32,
     pub number: u64,
-    pub place: u64,
+    pub index: u64,
 }
 
 /// An event on its lane, with the effect of a task that it carried out, if it did.

@@ -2,7 +2,7 @@
 //! a law, and its body is empty.
 ghost use Rattle.std.specs.Prelude.{[], ◌∷◌};
 ghost use Rattle.event_lists.specs.declared.event.Event.TheVariants.{Submitted, Ran, ReadHandled, ReadSent, Enter};
-ghost use Rattle.event_lists.specs.Runs.{label, main_does};
+ghost use Rattle.event_lists.specs.TaskRuns.{label, main_does};
 ghost use Rattle.event_lists.specs.RefusedRuns.{Accepts, Refuses, sends_to, submits, one_task, hand_takes, puts_in, one_need, need_and_due, giver_in_hand, spawned_a_need, spawned_its_due, in_a_fence, at_work, two_readings, found_different, found_equal, received, leaves};
 
 /// A message goes to another rank that there is.

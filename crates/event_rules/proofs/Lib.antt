@@ -1,5 +1,5 @@
-pub mod Loads
-pub mod Loops
-pub mod Takings
-pub mod Keeping
-pub mod Passing
+pub mod LoadLemmas
+pub mod LoopLemmas
+pub mod TakingLemmas
+pub mod DueLemmas
+pub mod PassLemmas

@@ -16,8 +16,8 @@ pub record Listed : Type 0 where
 abbrev pub on : LaneName → Event → Mark
 on l e = record { lane = l; event = e; effect = None }
 
-abbrev pub IsLegal : Listed → Type 0
-IsLegal s = Legal s.ranks s.workers s.log
+abbrev pub HasLegalLog : Listed → Type 0
+HasLegalLog s = Legal s.ranks s.workers s.log
 
 -- the list with this event at its end is legal
 abbrev pub Allows : Listed → LaneName → Event → Type 0

@@ -1,7 +1,7 @@
 //! What a main may do at fences.
 ghost use Rattle.std.specs.Prelude.{◌↔◌, ◌≡◌, ◌<◌, ℕ, List, IsTrue, None, Some};
 ghost use Rattle.event_lists.specs.declared.event.Event.TheVariants.{Enter, Leave};
-ghost use Rattle.event_lists.specs.declared.kind.Reading.{Reading as Read};
+ghost use Rattle.event_lists.specs.declared.kind.Reading.{Reading as ReadingData};
 ghost use Rattle.event_lists.specs.Events.{main_of, part};
 ghost use Rattle.event_lists.specs.Fences.{IsComplete, IsReady, Reads, InOrder, MayOpen, reading as reading_of};
 ghost use Rattle.event_rules.specs.Asks.{Asks};
@@ -66,7 +66,7 @@ pub fn may_read<P: Past>(
 
 // Whether a reading comes in its place: handled, ran, submitted, sent.
 fn is_in_order<P: Past>(past: &P, recent: &Recent, kind: Kind, fence: u32, pass: u64) -> bool
-    ensures { (rs : List Read) → EndsWith rs recent.now
+    ensures { (rs : List ReadingData) → EndsWith rs recent.now
         → (IsTrue result ↔ InOrder (P.ranks_of past.now) (P.log_of past.now) rs kind fence pass) }
 {
     match kind {
@@ -104,7 +104,7 @@ fn found_in(reading: Option<Reading>, kind: Kind, fence: u32, pass: u64) -> Opti
 
 // Whether handled may be read: no attempt is open, or the open one found ran and submitted different.
 fn may_begin(recent: &Recent) -> bool
-    ensures { (rs : List Read) → EndsWith rs recent.now → (IsTrue result ↔ MayOpen rs) }
+    ensures { (rs : List ReadingData) → EndsWith rs recent.now → (IsTrue result ↔ MayOpen rs) }
 {
     let Some(last) = recent.first else {
         return true;

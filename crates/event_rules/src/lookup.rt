@@ -1,6 +1,6 @@
 //! What is known of a list of events.
 ghost use Rattle.std.specs.Prelude.{◌≡◌, ◌↔◌, ◌<◌, ℕ, List, IsFalse};
-ghost use Rattle.event_lists.specs.declared.mark.Mark.{Mark as Entry};
+ghost use Rattle.event_lists.specs.declared.mark.Mark.{Mark as MarkData};
 ghost use Rattle.event_lists.specs.Events.{main_of, part, count};
 ghost use Rattle.event_lists.specs.Dues.{NeedsAreDues};
 ghost use Rattle.event_lists.specs.Fences.{row_of, has_receipt};
@@ -20,7 +20,7 @@ pub trait Past {
     ghost workers_of: { Self → ℕ };
 
     /// The events, the newest first.
-    ghost log_of: { Self → List Entry };
+    ghost log_of: { Self → List MarkData };
 
     fn ranks(&self) -> u32
         ensures { result ≡ ranks_of self.now };

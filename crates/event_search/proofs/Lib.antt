@@ -1,1 +1,1 @@
-pub mod Lacking
+pub mod LackingLemmas

@@ -1,7 +1,7 @@
 //! Futures: which were dues or needs of spawns, which were given, and which dues are lacking.
 ghost use Rattle.std.specs.Prelude.{◌≡◌, ◌↔◌, ◌≤◌, true, reverse, IsTrue, IsFalse};
 ghost use Rattle.std.specs.List.{list_any};
-ghost use Rattle.app_core.specs.declared.label.Label.{Label as Name};
+ghost use Rattle.app_core.specs.declared.label.Label.{Label as LabelData};
 ghost use Rattle.app_core.specs.Outlines.{same_label};
 ghost use Rattle.event_lists.specs.Futures.{was_due, was_needed, times_given};
 
@@ -62,7 +62,7 @@ pub fn was_given(future: Future, marks: &[Mark]) -> bool
 
 /// Whether one of these labels isn't the due of a spawn of this bringer.
 fn lacks_one(bringer: Bringer, needs: &[Label], marks: &[Mark]) -> bool
-    ensures { IsFalse result ↔ ((d : Name) → list_any (λ m. same_label d m) needs.now ≡ true → was_due bringer d (reverse marks.now) ≡ true) }
+    ensures { IsFalse result ↔ ((d : LabelData) → list_any (λ m. same_label d m) needs.now ≡ true → was_due bringer d (reverse marks.now) ≡ true) }
 {
     match needs.split_first() {
         None => false,
@@ -73,7 +73,7 @@ fn lacks_one(bringer: Bringer, needs: &[Label], marks: &[Mark]) -> bool
 
 /// Whether one of the needs with which this bringer spawned in `marks` isn't the due of a spawn of it in `all`.
 pub fn lacks_dues(bringer: Bringer, marks: &[Mark], all: &[Mark]) -> bool
-    ensures { IsFalse result ↔ ((d : Name) → was_needed bringer d (reverse marks.now) ≡ true → was_due bringer d (reverse all.now) ≡ true) }
+    ensures { IsFalse result ↔ ((d : LabelData) → was_needed bringer d (reverse marks.now) ≡ true → was_due bringer d (reverse all.now) ≡ true) }
 {
     match marks.split_last() {
         None => false,

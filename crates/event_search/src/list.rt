@@ -1,6 +1,6 @@
 //! The list.
 ghost use Rattle.std.specs.Prelude.{◌≡◌, ◌↔◌, ◌≤◌, [], ◌∷◌, reverse, IfOk, OnErr, IsTrue, IsFalse};
-ghost use Rattle.event_rules.specs.Listed.{AreInRange, IsLegal, Allows, on};
+ghost use Rattle.event_rules.specs.Listed.{AreInRange, HasLegalLog, Allows, on};
 ghost use Rattle.app_core.specs.Commands.{IsRankCount};
 
 use app_core::OutOfMemory;
@@ -21,7 +21,7 @@ pub struct SearchedList {
 
 impl Model for SearchedList {
     ghost use Rattle.event_rules.specs.Listed.{Listed};
-    ghost use Rattle.event_search.specs.Kept.{listed, IsKept};
+    ghost use Rattle.event_search.specs.Searched.{listed, IsKept};
 
     ghost Value = { Listed };
 
@@ -63,7 +63,7 @@ impl SearchedList {
     /// The events, the oldest first. They are legal.
     pub fn marks(&self) -> &[Mark]
         ensures marks { reverse result.now ≡ self.now.log }
-        ensures legal { IsLegal self.now }
+        ensures legal { HasLegalLog self.now }
     {
         self.marks.as_slice()
     }

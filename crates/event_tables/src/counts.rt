@@ -1,10 +1,10 @@
 //! How many events of each kind stand at each rank.
 ghost use Rattle.std.specs.Prelude.{◌≡◌, ℕ, ◌<◌, List, ◌∷◌, length, true, Some, OnOk};
-ghost use Rattle.event_lists.specs.declared.kind.Kind.{Kind as Counted};
-ghost use Rattle.event_lists.specs.declared.mark.Mark.{Mark as Entry};
+ghost use Rattle.event_lists.specs.declared.kind.Kind.{Kind as KindData};
+ghost use Rattle.event_lists.specs.declared.mark.Mark.{Mark as MarkData};
 ghost use Rattle.event_lists.specs.Legal.{Legal};
 ghost use Rattle.event_rules.specs.Listed.{on};
-ghost use Rattle.event_tables.specs.declared.keys.CountName.{CountName as Name};
+ghost use Rattle.event_tables.specs.declared.keys.CountName.{CountName as CountNameData};
 ghost use Rattle.event_tables.specs.Keys.{same_count};
 ghost use Rattle.event_tables.specs.Tables.{value_at, has_place};
 ghost use Rattle.event_tables.specs.Contents.{KeepsCounts, max_events};
@@ -34,8 +34,8 @@ pub fn room(
     lane: LaneName,
     event: &Event,
 ) -> Result<(), OutOfMemory>
-    ensures values { (c : Name) → value_at same_count counts.new c ≡ value_at same_count counts.old c }
-    ensures place { OnOk result ((k : Counted) → kind_of event.now ≡ Some k → has_place same_count counts.new (record { rank = lane.rank; kind = k }) ≡ true) }
+    ensures values { (c : CountNameData) → value_at same_count counts.new c ≡ value_at same_count counts.old c }
+    ensures place { OnOk result ((k : KindData) → kind_of event.now ≡ Some k → has_place same_count counts.new (record { rank = lane.rank; kind = k }) ≡ true) }
 {
     match kind_of(event) {
         Some(kind) => counts.touch(CountName {
@@ -48,8 +48,8 @@ pub fn room(
 
 /// Counts an event, for whose count there is room.
 pub fn note(counts: &mut Table<CountName, u64>, lane: LaneName, event: &Event)
-    requires place { (k : Counted) → kind_of event.now ≡ Some k → has_place same_count counts.old (record { rank = lane.rank; kind = k }) ≡ true }
-    ensures { (log : List Entry) → length log < max_events → KeepsCounts log counts.old → KeepsCounts (on lane event.now ∷ log) counts.new }
+    requires place { (k : KindData) → kind_of event.now ≡ Some k → has_place same_count counts.old (record { rank = lane.rank; kind = k }) ≡ true }
+    ensures { (log : List MarkData) → length log < max_events → KeepsCounts log counts.old → KeepsCounts (on lane event.now ∷ log) counts.new }
 {
     if let Some(kind) = kind_of(event) {
         let name = CountName {

@@ -1,6 +1,6 @@
 //! What was done with each future.
 ghost use Rattle.std.specs.Prelude.{◌≡◌, List, [], ◌∷◌, OnOk, Bool, true, false, if◌then◌else◌};
-ghost use Rattle.event_lists.specs.declared.mark.Mark.{Mark as Entry};
+ghost use Rattle.event_lists.specs.declared.mark.Mark.{Mark as MarkData};
 ghost use Rattle.event_lists.specs.Futures.{same_future, is_future, bringer as bringer_of, spawned_needs as needs_spawned};
 ghost use Rattle.event_rules.specs.Listed.{on};
 ghost use Rattle.event_rules.specs.Shown.{ShowsLane};
@@ -113,7 +113,7 @@ fn room_for(futures: &mut Table<Future, Found>, future: Option<Future>) -> Resul
 /// Notes an event, for which there is room, on a lane that stood so before.
 pub fn note(futures: &mut Table<Future, Found>, state: &LaneState, lane: LaneName, event: &Event)
     requires room { HasRoomFor futures.old lane.rank state.now event.now }
-    ensures { (log : List Entry) → ShowsLane log lane state.now → KeepsFutures log futures.old → KeepsFutures (on lane event.now ∷ log) futures.new }
+    ensures { (log : List MarkData) → ShowsLane log lane state.now → KeepsFutures log futures.old → KeepsFutures (on lane event.now ∷ log) futures.new }
 {
     let by = bringer(lane.rank, state.hand);
     note_due(futures, by, spawned_due(event));

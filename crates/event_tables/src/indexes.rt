@@ -1,6 +1,6 @@
 //! What is kept of a list of events, so that the next event is judged without a search.
 ghost use Rattle.std.specs.Prelude.{◌≡◌, ℕ, ◌<◌, List, [], ◌∷◌, length, OnOk};
-ghost use Rattle.event_lists.specs.declared.mark.Mark.{Mark as Entry};
+ghost use Rattle.event_lists.specs.declared.mark.Mark.{Mark as MarkData};
 ghost use Rattle.event_lists.specs.Legal.{Legal};
 ghost use Rattle.event_rules.specs.Listed.{on};
 ghost use Rattle.event_rules.specs.Shown.{ShowsLane};
@@ -83,7 +83,7 @@ impl Indexes {
     /// Notes an event, for which there is room, on a lane that stood so before.
     pub fn note(&mut self, state: &LaneState, lane: LaneName, event: &Event)
         requires room { HasRoom self.old state.now lane event.now }
-        ensures { (ranks workers : ℕ) (log : List Entry) → Legal ranks workers (on lane event.now ∷ log) → length log < max_events
+        ensures { (ranks workers : ℕ) (log : List MarkData) → Legal ranks workers (on lane event.now ∷ log) → length log < max_events
             → ShowsLane log lane state.now → Keeps log self.old → Keeps (on lane event.now ∷ log) self.new }
     {
         lanes::note(&mut self.lanes, &self.items, lane, event);

@@ -1,11 +1,11 @@
 //! The messages that were sent and the tasks that were submitted.
 ghost use Rattle.std.specs.Prelude.{◌≡◌, ℕ, List, ◌∷◌, true, false, Some, None, OnOk};
-ghost use Rattle.event_lists.specs.declared.mark.Item.{Item as Name};
-ghost use Rattle.event_lists.specs.declared.mark.Mark.{Mark as Entry};
+ghost use Rattle.event_lists.specs.declared.mark.Item.{Item as ItemData};
+ghost use Rattle.event_lists.specs.declared.mark.Mark.{Mark as MarkData};
 ghost use Rattle.event_lists.specs.Events.{same_item};
 ghost use Rattle.event_lists.specs.Futures.{bringer as bringer_of, due_made as made_due};
 ghost use Rattle.event_lists.specs.Legal.{Legal};
-ghost use Rattle.event_rules.specs.declared.values.Load.{Load as Loaded};
+ghost use Rattle.event_rules.specs.declared.values.Load.{Load as LoadData};
 ghost use Rattle.event_rules.specs.Listed.{on};
 ghost use Rattle.event_rules.specs.Shown.{load_made as made_load, ShowsLane};
 ghost use Rattle.event_tables.specs.Items.{item_of, taken_once};
@@ -50,7 +50,7 @@ fn taken_once(made: Option<Made>) -> Option<Made>
 // What is known of a message or task after an event that makes or takes it. `state` is that of the lane of this rank
 // on which the event stands.
 fn made_after(made: Option<Made>, state: &LaneState, rank: u32, event: &Event) -> Option<Made>
-    ensures made { (d : Loaded) → made_load event.now ≡ Some d
+    ensures made { (d : LoadData) → made_load event.now ≡ Some d
         → result ≡ Some (record { load = d; by = bringer_of rank state.now.hand; due = made_due rank state.now.hand state.now.own event.now; taken = false }) }
     ensures taken { made_load event.now ≡ None → result ≡ taken_once made }
 {
@@ -71,8 +71,8 @@ pub fn room(
     lane: LaneName,
     event: &Event,
 ) -> Result<(), OutOfMemory>
-    ensures values { (c : Name) → value_at same_item items.new c ≡ value_at same_item items.old c }
-    ensures place { OnOk result ((c : Name) → item_of lane.rank event.now ≡ Some c → has_place same_item items.new c ≡ true) }
+    ensures values { (c : ItemData) → value_at same_item items.new c ≡ value_at same_item items.old c }
+    ensures place { OnOk result ((c : ItemData) → item_of lane.rank event.now ≡ Some c → has_place same_item items.new c ≡ true) }
 {
     match item_of(lane.rank, event) {
         Some(item) => items.touch(item),
@@ -83,8 +83,8 @@ pub fn room(
 /// Notes the message or task that an event makes or takes, for which there is room. `state` is that of the event's
 /// lane before the event.
 pub fn note(items: &mut Table<Item, Option<Made>>, state: &LaneState, lane: LaneName, event: &Event)
-    requires place { (c : Name) → item_of lane.rank event.now ≡ Some c → has_place same_item items.old c ≡ true }
-    ensures { (ranks workers : ℕ) (log : List Entry) → Legal ranks workers (on lane event.now ∷ log) → ShowsLane log lane state.now
+    requires place { (c : ItemData) → item_of lane.rank event.now ≡ Some c → has_place same_item items.old c ≡ true }
+    ensures { (ranks workers : ℕ) (log : List MarkData) → Legal ranks workers (on lane event.now ∷ log) → ShowsLane log lane state.now
         → KeepsItems log items.old → KeepsItems (on lane event.now ∷ log) items.new }
 {
     if let Some(item) = item_of(lane.rank, event) {

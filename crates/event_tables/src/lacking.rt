@@ -1,6 +1,6 @@
 //! How many labels that each bringer needs aren't the due of a spawn of it.
 ghost use Rattle.std.specs.Prelude.{◌≡◌, ℕ, ◌<◌, ◌≤◌, List, [], ◌∷◌, length, OnOk, Bool, true, IsFalse, ◌↔◌};
-ghost use Rattle.event_lists.specs.declared.mark.Mark.{Mark as Entry};
+ghost use Rattle.event_lists.specs.declared.mark.Mark.{Mark as MarkData};
 ghost use Rattle.event_lists.specs.Futures.{same_bringer};
 ghost use Rattle.event_lists.specs.Dues.{NeedsAreDues};
 ghost use Rattle.event_lists.specs.Legal.{Legal};
@@ -27,7 +27,7 @@ pub fn empty(alloc: Global) -> Table<Bringer, u64>
 
 /// Whether a label that a spawn of this bringer needed isn't the due of a spawn of it.
 pub fn lacks_dues(lacking: &Table<Bringer, u64>, by: Bringer) -> bool
-    ensures { (log : List Entry) → KeepsLacks log lacking.now → (IsFalse result ↔ NeedsAreDues by log) }
+    ensures { (log : List MarkData) → KeepsLacks log lacking.now → (IsFalse result ↔ NeedsAreDues by log) }
 {
     lacking.get(by) > 0
 }
@@ -58,7 +58,7 @@ pub fn note(
     event: &Event,
 )
     requires room { HasSpawner lacking.old lane.rank state.now event.now }
-    ensures { (ranks workers : ℕ) (log : List Entry) → Legal ranks workers (on lane event.now ∷ log) → length log < max_events
+    ensures { (ranks workers : ℕ) (log : List MarkData) → Legal ranks workers (on lane event.now ∷ log) → length log < max_events
         → ShowsLane log lane state.now → KeepsFutures log futures.now → KeepsLacks log lacking.old → KeepsLacks (on lane event.now ∷ log) lacking.new }
 {
     let Some(by) = spawner(lane.rank, state.hand, event) else {

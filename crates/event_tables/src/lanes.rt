@@ -1,8 +1,8 @@
 //! Where each lane stands.
 ghost use Rattle.std.specs.Prelude.{◌≡◌, ℕ, ◌<◌, List, ◌∷◌, length, true, OnOk};
-ghost use Rattle.event_lists.specs.declared.event.Event.{Event as Happening};
-ghost use Rattle.event_lists.specs.declared.lane.LaneName.{LaneName as Name};
-ghost use Rattle.event_lists.specs.declared.mark.Mark.{Mark as Entry};
+ghost use Rattle.event_lists.specs.declared.event.Event.{Event as EventData};
+ghost use Rattle.event_lists.specs.declared.lane.LaneName.{LaneName as LaneNameData};
+ghost use Rattle.event_lists.specs.declared.mark.Mark.{Mark as MarkData};
 ghost use Rattle.event_lists.specs.Events.{same_lane, hand_after};
 ghost use Rattle.event_lists.specs.Fences.{fence_in, enters, readings, passes};
 ghost use Rattle.event_lists.specs.Legal.{Legal};
@@ -25,7 +25,7 @@ const NOTHING_READ: Recent = Recent {
 
 /// Where a lane stands after an event on it. `due` is that of the message or task which the event takes.
 pub fn after(state: &LaneState, event: &Event, due: Option<Future>) -> LaneState
-    ensures { (ranks workers : ℕ) (log : List Entry) (lane : Name) → Legal ranks workers (on lane event.now ∷ log) → length log < max_events
+    ensures { (ranks workers : ℕ) (log : List MarkData) (lane : LaneNameData) → Legal ranks workers (on lane event.now ∷ log) → length log < max_events
         → IsDueTaken event.now due log → ShowsLane log lane state.now → ShowsLane (on lane event.now ∷ log) lane result }
 {
     LaneState {
@@ -95,7 +95,7 @@ fn fresh_after(fresh: bool, event: &Event) -> bool
 
 // The fence that a main is in after an event.
 fn fence_after(fence: Option<u32>, event: &Event) -> Option<u32>
-    ensures { (mine : List Happening) → fence ≡ fence_in mine → result ≡ fence_in (event.now ∷ mine) }
+    ensures { (mine : List EventData) → fence ≡ fence_in mine → result ≡ fence_in (event.now ∷ mine) }
 {
     match event {
         Event::Enter(fence) => Some(*fence),
@@ -106,7 +106,7 @@ fn fence_after(fence: Option<u32>, event: &Event) -> Option<u32>
 
 // How many fences a main entered after an event.
 fn entered_after(entered: u64, event: &Event) -> u64
-    ensures { (mine : List Happening) → enters mine < max_events → entered ≡ enters mine → result ≡ enters (event.now ∷ mine) }
+    ensures { (mine : List EventData) → enters mine < max_events → entered ≡ enters mine → result ≡ enters (event.now ∷ mine) }
 {
     match event {
         Event::Enter(_) => entered.saturating_add(1),
@@ -116,7 +116,7 @@ fn entered_after(entered: u64, event: &Event) -> u64
 
 // How many passes a main completed in its last fence after an event.
 fn passes_after(passed: u64, event: &Event) -> u64
-    ensures { (mine : List Happening) → passes (readings mine) < max_events → passed ≡ passes (readings mine) → result ≡ passes (readings (event.now ∷ mine)) }
+    ensures { (mine : List EventData) → passes (readings mine) < max_events → passed ≡ passes (readings mine) → result ≡ passes (readings (event.now ∷ mine)) }
 {
     match event {
         Event::Enter(_) => 0,
@@ -127,7 +127,7 @@ fn passes_after(passed: u64, event: &Event) -> u64
 
 // The last three readings of a main in its last fence after an event.
 fn recent_after(recent: &Recent, event: &Event) -> Recent
-    ensures { (mine : List Happening) → AreLast (readings mine) recent.now → AreLast (readings (event.now ∷ mine)) result }
+    ensures { (mine : List EventData) → AreLast (readings mine) recent.now → AreLast (readings (event.now ∷ mine)) result }
 {
     let (kind, found, fence, pass) = match event {
         Event::ReadHandled { value, fence, pass } => (Kind::Handlings, *value, *fence, *pass),
@@ -152,7 +152,7 @@ fn recent_after(recent: &Recent, event: &Event) -> Recent
 
 // The due of the message or task that an event takes.
 fn due_taken(items: &Table<Item, Option<Made>>, event: &Event) -> Option<Future>
-    ensures { (log : List Entry) → KeepsItems log items.now → IsDueTaken event.now result log }
+    ensures { (log : List MarkData) → KeepsItems log items.now → IsDueTaken event.now result log }
 {
     let item = events::takes(event)?;
     match items.get(item) {
@@ -163,7 +163,7 @@ fn due_taken(items: &Table<Item, Option<Made>>, event: &Event) -> Option<Future>
 
 /// Makes room for the state of a lane.
 pub fn room(lanes: &mut Table<LaneName, LaneState>, lane: LaneName) -> Result<(), OutOfMemory>
-    ensures values { (l : Name) → value_at same_lane lanes.new l ≡ value_at same_lane lanes.old l }
+    ensures values { (l : LaneNameData) → value_at same_lane lanes.new l ≡ value_at same_lane lanes.old l }
     ensures place { OnOk result (has_place same_lane lanes.new lane ≡ true) }
 {
     lanes.touch(lane)
@@ -177,7 +177,7 @@ pub fn note(
     event: &Event,
 )
     requires place { has_place same_lane lanes.old lane ≡ true }
-    ensures { (ranks workers : ℕ) (log : List Entry) → Legal ranks workers (on lane event.now ∷ log) → length log < max_events
+    ensures { (ranks workers : ℕ) (log : List MarkData) → Legal ranks workers (on lane event.now ∷ log) → length log < max_events
         → KeepsItems log items.now → KeepsLanes log lanes.old → KeepsLanes (on lane event.now ∷ log) lanes.new }
 {
     let due = due_taken(items, event);

@@ -1,14 +1,14 @@
 //! The rows of passes, and the fences that have a receipt.
 ghost use Rattle.std.specs.Prelude.{◌≡◌, ◌==◌, ℕ, List, ◌∷◌, true, Some, OnOk};
-ghost use Rattle.event_lists.specs.declared.lane.LaneName.{LaneName as Lane};
-ghost use Rattle.event_lists.specs.declared.mark.Mark.{Mark as Listed};
-ghost use Rattle.event_lists.specs.declared.event.Event.{Event as Told};
+ghost use Rattle.event_lists.specs.declared.lane.LaneName.{LaneName as LaneNameData};
+ghost use Rattle.event_lists.specs.declared.mark.Mark.{Mark as MarkData};
+ghost use Rattle.event_lists.specs.declared.event.Event.{Event as EventData};
 ghost use Rattle.event_lists.specs.Fences.{readings, row_after};
 ghost use Rattle.event_lists.specs.Legal.{Legal};
 ghost use Rattle.event_rules.specs.Listed.{on};
 ghost use Rattle.event_rules.specs.Shown.{ShowsLane};
 ghost use Rattle.event_tables.specs.Lanes.{AreLast};
-ghost use Rattle.event_tables.specs.declared.keys.PassName.{PassName as Name};
+ghost use Rattle.event_tables.specs.declared.keys.PassName.{PassName as PassNameData};
 ghost use Rattle.event_tables.specs.Keys.{same_pass};
 ghost use Rattle.event_tables.specs.Tables.{value_at, has_place};
 ghost use Rattle.event_tables.specs.Contents.{KeepsRows, KeepsReceipts};
@@ -22,7 +22,7 @@ use event_rules::{LaneState, Recent};
 
 /// The row of a pass that a reading of sent completes, after these readings.
 fn row_after(sent: u64, recent: &Recent) -> Row
-    ensures { (mine : List Told) → AreLast (readings mine) recent.now → result ≡ row_after sent (readings mine) }
+    ensures { (mine : List EventData) → AreLast (readings mine) recent.now → result ≡ row_after sent (readings mine) }
 {
     match (recent.second, recent.third) {
         (Some(ran), Some(handled)) => Row {
@@ -62,8 +62,8 @@ pub fn room_for_row(
     lane: LaneName,
     event: &Event,
 ) -> Result<(), OutOfMemory>
-    ensures values { (p : Name) → value_at same_pass rows.new p ≡ value_at same_pass rows.old p }
-    ensures place { OnOk result ((p : Name) → pass_of lane event.now ≡ Some p → has_place same_pass rows.new p ≡ true) }
+    ensures values { (p : PassNameData) → value_at same_pass rows.new p ≡ value_at same_pass rows.old p }
+    ensures place { OnOk result ((p : PassNameData) → pass_of lane event.now ≡ Some p → has_place same_pass rows.new p ≡ true) }
 {
     match pass_of(lane, event) {
         Some(pass) => rows.touch(pass),
@@ -78,8 +78,8 @@ pub fn note_row(
     lane: LaneName,
     event: &Event,
 )
-    requires place { (p : Name) → pass_of lane event.now ≡ Some p → has_place same_pass rows.old p ≡ true }
-    ensures { (ranks workers : ℕ) (log : List Listed) → Legal ranks workers (on lane event.now ∷ log) → ShowsLane log lane state.now
+    requires place { (p : PassNameData) → pass_of lane event.now ≡ Some p → has_place same_pass rows.old p ≡ true }
+    ensures { (ranks workers : ℕ) (log : List MarkData) → Legal ranks workers (on lane event.now ∷ log) → ShowsLane log lane state.now
         → KeepsRows log rows.old → KeepsRows (on lane event.now ∷ log) rows.new }
 {
     if let Event::ReadSent { value, fence, pass } = *event {
@@ -106,7 +106,7 @@ pub fn room_for_receipt(receipts: &mut Table<u32, bool>, event: &Event) -> Resul
 /// Notes the receipt that an event is, for which there is room.
 pub fn note_receipt(receipts: &mut Table<u32, bool>, event: &Event)
     requires place { (f : ℕ) → received_of event.now ≡ Some f → has_place (λ a b. a == b) receipts.old f ≡ true }
-    ensures { (lane : Lane) (log : List Listed) → KeepsReceipts log receipts.old → KeepsReceipts (on lane event.now ∷ log) receipts.new }
+    ensures { (lane : LaneNameData) (log : List MarkData) → KeepsReceipts log receipts.old → KeepsReceipts (on lane event.now ∷ log) receipts.new }
 {
     if let Event::Receipt(receipt) = event {
         receipts.set(receipt.fence, true);

@@ -1,1 +1,1 @@
-mod SmallRun
+mod SmallRunLemmas

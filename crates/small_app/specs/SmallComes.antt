@@ -13,7 +13,7 @@ use Rattle.event_laws.specs.Trees.{unit_of}
 use Rattle.event_laws.specs.Apart.{Apart}
 use Rattle.event_laws.specs.Held.{fences_before}
 use Rattle.event_laws.specs.Stages.{IsStaged, Comes, started, spawned, IsOfFence, AsPlanned, AreUnits}
-use Rattle.event_laws.proofs.Programs.{stages}
+use Rattle.event_laws.proofs.ProgramLemmas.{stages}
 use Rattle.small_app.specs.declared.unit.Unit.{Unit}
 use Rattle.small_app.specs.declared.unit.Unit.TheVariants.{Fill, Leaf, Sum, Clear, Read, Count, Total, Guessed}
 use Rattle.small_app.specs.declared.guess.GuessUnit.TheVariants.{Guess, Early, Late}
@@ -215,7 +215,7 @@ first_are_units ranks = record {
   apart = first_apart;
   all = λ u q c is. let k = came ranks u q c in (subst (Contains first_units) k.2 (in_first k.0 (ap (λ (l : Label). l.command) k.2 ∙ is)), k.3);
   only = of_first (λ u. Comes (program ranks) (AsPlanned (plan ranks) OfFirst) u (home ranks u) × OfFirst u) (first Fill (omega arith), refl) (first (Leaf false (leaf_value false)) (omega arith), refl) (first (Leaf true (leaf_value true)) (omega arith), refl) (first Sum (omega arith), refl) (first Clear (omega arith), refl);
-  plans = λ u os is m. planned ranks u os (first_is_sound u is) m;
+  task_effects = λ u os is m. planned ranks u os (first_is_sound u is) m;
 }
   where
     first : (unit : Unit) → (label_of unit).command < 5 → Comes (program ranks) (AsPlanned (plan ranks) OfFirst) (label_of unit) (home_of unit ranks)
@@ -271,7 +271,7 @@ units_are ranks zero early = record {
   apart = tt;
   all = λ u q c is. absurd (omega (arith, is));
   only = λ u is. absurd (let lt = is.1 in omega (arith, lt));
-  plans = λ u os is m. absurd (let lt = is.1 in omega (arith, lt));
+  task_effects = λ u os is m. absurd (let lt = is.1 in omega (arith, lt));
 }
 units_are ranks (suc zero) early = record {
   apart = first_apart;
@@ -279,7 +279,7 @@ units_are ranks (suc zero) early = record {
       let k = came ranks u q c in
       (subst (Contains first_units) k.2 (in_first k.0 (early_command k.0 (subst (λ (l : Label). stage l < 1) (sym k.2) is))), k.3);
   only = of_first (λ u. Comes (program ranks) (AsPlanned (plan ranks) (OfFence 1)) u (home ranks u) × OfFence 1 u) (first Fill (omega arith), omega arith) (first (Leaf false (leaf_value false)) (omega arith), omega arith) (first (Leaf true (leaf_value true)) (omega arith), omega arith) (first Sum (omega arith), omega arith) (first Clear (omega arith), omega arith);
-  plans = λ u os is m. planned ranks u os (first_is_sound u is) m;
+  task_effects = λ u os is m. planned ranks u os (first_is_sound u is) m;
 }
   where
     first : (unit : Unit) → (label_of unit).command < 5 → Comes (program ranks) (AsPlanned (plan ranks) (OfFence 1)) (label_of unit) (home_of unit ranks)
@@ -291,6 +291,6 @@ units_are ranks (suc (suc zero)) early = record {
       (subst (Contains all_units) k.2 (in_all k.0 (before_second k.0 (subst (λ (l : Label). stage l < 2) (sym k.2) is))), k.3);
   only = of_all (λ u. Comes (program ranks) (AsPlanned (plan ranks) (OfFence 2)) u (home ranks u) × OfFence 2 u)
       (λ unit is lt. (subst (λ (q : ℕ). Comes (program ranks) (AsPlanned (plan ranks) (OfFence 2)) (label_of unit) q) (home_again ranks unit is) (comes ranks (OfFence 2) (omega arith) (omega arith) unit lt), few_fences unit lt));
-  plans = λ u os is m. planned ranks u os (all_are_sound u is) m;
+  task_effects = λ u os is m. planned ranks u os (all_are_sound u is) m;
 }
 units_are ranks (suc (suc (suc fence))) early = absurd (omega (arith, early))

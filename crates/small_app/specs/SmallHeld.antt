@@ -14,15 +14,15 @@ use Rattle.event_lists.specs.declared.receipt.Receipt.{Receipt}
 use Rattle.event_lists.specs.declared.mark.Mark.{Mark}
 use Rattle.event_lists.specs.Events.{part}
 use Rattle.event_lists.specs.Bins.{is_put}
-use Rattle.event_laws.specs.Follows.{Plans, IsRun, bin_of}
+use Rattle.event_laws.specs.Follows.{TaskEffects, IsRun, bin_of}
 use Rattle.event_laws.specs.Apart.{Apart, spawned, HasOneBringer, EffectsApart, ErasesPut}
 use Rattle.event_laws.specs.Held.{HasReceipt, IsBefore, ComesAfter, BinsHold, AreDifferent, AllSound, HasNoWriter, all_told, entry, fences_before}
 use Rattle.event_laws.specs.Stages.{UnitHas}
-use Rattle.event_laws.proofs.Sources.{apart}
-use Rattle.event_laws.proofs.Bringers.{one_bringer, effects_apart}
-use Rattle.event_laws.proofs.Erasing.{erases_put}
-use Rattle.event_laws.proofs.Units.{units_lie}
-use Rattle.event_laws.proofs.Totals.{all_counted}
+use Rattle.event_laws.proofs.SourceLemmas.{apart}
+use Rattle.event_laws.proofs.BringerLemmas.{one_bringer, effects_apart}
+use Rattle.event_laws.proofs.EraseLemmas.{erases_put}
+use Rattle.event_laws.proofs.UnitLemmas.{units_lie}
+use Rattle.event_laws.proofs.TotalLemmas.{all_counted}
 use Rattle.small_app.specs.declared.unit.Unit.{Unit}
 use Rattle.small_app.specs.declared.unit.Unit.TheVariants.{Fill, Leaf, Sum, Clear, Read, Count, Total, Guessed}
 use Rattle.small_app.specs.Guess.{guess_entry}
@@ -176,33 +176,33 @@ writer_is version command e sound = go (version == 1) refl e
     go true t e = (eqb-true version 1 t, (let z : 1 ≡ command = cc in sym z))
     go false t e = last (version == 2) e
 
-pub spawns_apart : (ranks : ℕ) (plans : Plans) (log : List Mark) (workers : ℕ) → IsRun ranks workers (program ranks) (MayDo ranks) plans log → Apart (spawned log)
-spawns_apart ranks plans log workers run = apart ranks workers (program ranks) (MayDo ranks) plans log run parent (tree ranks)
+pub spawns_apart : (ranks : ℕ) (task_effects : TaskEffects) (log : List Mark) (workers : ℕ) → IsRun ranks workers (program ranks) (MayDo ranks) task_effects log → Apart (spawned log)
+spawns_apart ranks task_effects log workers run = apart ranks workers (program ranks) (MayDo ranks) task_effects log run parent (tree ranks)
 
-pub bringer_is_one : (ranks : ℕ) (plans : Plans) (log : List Mark) (workers : ℕ) → IsRun ranks workers (program ranks) (MayDo ranks) plans log → HasOneBringer log
-bringer_is_one ranks plans log workers run = one_bringer ranks workers (program ranks) (MayDo ranks) plans log run raiser dues (futures ranks) parent (tree ranks)
+pub bringer_is_one : (ranks : ℕ) (task_effects : TaskEffects) (log : List Mark) (workers : ℕ) → IsRun ranks workers (program ranks) (MayDo ranks) task_effects log → HasOneBringer log
+bringer_is_one ranks task_effects log workers run = one_bringer ranks workers (program ranks) (MayDo ranks) task_effects log run raiser dues (futures ranks) parent (tree ranks)
 
-pub puts_apart : (ranks : ℕ) (plans : Plans) (log : List Mark) (workers : ℕ) → IsRun ranks workers (program ranks) (MayDo ranks) plans log → EffectsApart (λ c. of.Put c) plans
-puts_apart ranks plans log workers run = effects_apart ranks workers (program ranks) (MayDo ranks) plans log run parent (tree ranks) (λ c. of.Put c) (puts_once ranks)
+pub puts_apart : (ranks : ℕ) (task_effects : TaskEffects) (log : List Mark) (workers : ℕ) → IsRun ranks workers (program ranks) (MayDo ranks) task_effects log → EffectsApart (λ c. of.Put c) task_effects
+puts_apart ranks task_effects log workers run = effects_apart ranks workers (program ranks) (MayDo ranks) task_effects log run parent (tree ranks) (λ c. of.Put c) (puts_once ranks)
 
-pub erases_apart : (ranks : ℕ) (plans : Plans) (log : List Mark) (workers : ℕ) → IsRun ranks workers (program ranks) (MayDo ranks) plans log → EffectsApart (λ c. of.Erase c) plans
-erases_apart ranks plans log workers run = effects_apart ranks workers (program ranks) (MayDo ranks) plans log run parent (tree ranks) (λ c. of.Erase c) (erases_once ranks)
+pub erases_apart : (ranks : ℕ) (task_effects : TaskEffects) (log : List Mark) (workers : ℕ) → IsRun ranks workers (program ranks) (MayDo ranks) task_effects log → EffectsApart (λ c. of.Erase c) task_effects
+erases_apart ranks task_effects log workers run = effects_apart ranks workers (program ranks) (MayDo ranks) task_effects log run parent (tree ranks) (λ c. of.Erase c) (erases_once ranks)
 
-pub erased_was_put : (ranks : ℕ) (plans : Plans) (log : List Mark) (workers : ℕ) → IsRun ranks workers (program ranks) (MayDo ranks) plans log → ErasesPut plans log
-erased_was_put ranks plans log workers run = erases_put ranks workers (program ranks) (MayDo ranks) plans log run parent (tree ranks) (home ranks) needs (places ranks) (eraser_waits ranks)
+pub erased_was_put : (ranks : ℕ) (task_effects : TaskEffects) (log : List Mark) (workers : ℕ) → IsRun ranks workers (program ranks) (MayDo ranks) task_effects log → ErasesPut task_effects log
+erased_was_put ranks task_effects log workers run = erases_put ranks workers (program ranks) (MayDo ranks) task_effects log run parent (tree ranks) (home ranks) needs (places ranks) (eraser_waits ranks)
 
-pub bins_hold : (ranks : ℕ) (plans : Plans) (log before : List Mark) (workers : ℕ) (x : Mark) (r : Receipt) (version command : ℕ)
-    → IsRun ranks workers (program ranks) (MayDo ranks) plans log → HasReceipt log before x r → writer_of version ≡ Some command → IsSound command → IsBefore kinds command r.fence
+pub bins_hold : (ranks : ℕ) (task_effects : TaskEffects) (log before : List Mark) (workers : ℕ) (x : Mark) (r : Receipt) (version command : ℕ)
+    → IsRun ranks workers (program ranks) (MayDo ranks) task_effects log → HasReceipt log before x r → writer_of version ≡ Some command → IsSound command → IsBefore kinds command r.fence
     → BinsHold ranks (holds ranks) version before × BinsHold ranks (holds ranks) version log
-bins_hold ranks plans log before workers x r version command run has w sound early =
+bins_hold ranks task_effects log before workers x r version command run has w sound early =
     let is = writer_is version command w sound in
     let some : 0 < r.fence = subst (λ (z : ℕ). fences_before z kinds < r.fence) is.1 early in
     subst (λ (v : ℕ). BinsHold ranks (holds ranks) v before × BinsHold ranks (holds ranks) v log) (sym is.0) ((λ l place b i. now some l place), (λ l place b i. later some l place))
   where
     lie : 0 < r.fence → (l : LaneName) (place : ℕ) → ((is_put (entry 1 place) (part l before) ≡ true) ↔ (UnitHas (plan ranks) (home ranks) first_units l.rank (of.Put (entry 1 place)) × (UnitHas (plan ranks) (home ranks) first_units l.rank (of.Erase (entry 1 place)) → ⊥) × (l ≡ bin_of l.rank (entry 1 place))))
         × (is_put (entry 1 place) (part l log) ≡ is_put (entry 1 place) (part l before))
-    lie some l place = units_lie ranks workers (program ranks) (MayDo ranks) plans log before x r run has stage (staged ranks) OfFirst (first_is_before ranks r.fence some) (plan ranks) (home ranks) first_units (first_are_units ranks)
-        (puts_apart ranks plans log workers run) (entry 1 place) (writes_first ranks (entry 1 place) refl) l
+    lie some l place = units_lie ranks workers (program ranks) (MayDo ranks) task_effects log before x r run has stage (staged ranks) OfFirst (first_is_before ranks r.fence some) (plan ranks) (home ranks) first_units (first_are_units ranks)
+        (puts_apart ranks task_effects log workers run) (entry 1 place) (writes_first ranks (entry 1 place) refl) l
 
     now : 0 < r.fence → (l : LaneName) (place : ℕ) → (is_put (entry 1 place) (part l before) ≡ true) ↔ (Contains (holds ranks l.rank 1) place × (l ≡ bin_of l.rank (entry 1 place)))
     now some l place =
@@ -233,9 +233,9 @@ other_sizes_are_right ranks rank version number none = go (version == 1) refl
     go true e = absurd (none 1 (ap (λ (b : Bool). if b then Some 1 else if version == 2 then Some 5 else None) e) (omega arith))
     go false e = tt
 
-pub totals_are_told : (ranks : ℕ) (plans : Plans) (log before : List Mark) (workers : ℕ) (x : Mark) (r : Receipt)
-    → IsRun ranks workers (program ranks) (MayDo ranks) plans log → HasReceipt log before x r → AllSound kinds IsSound r.fence → all_told r ≡ total_of ranks r.fence
-totals_are_told ranks plans log before workers x r run has sound = all_counted ranks workers (program ranks) (MayDo ranks) plans log before x r run has (spawns_apart ranks plans log workers run)
+pub totals_are_told : (ranks : ℕ) (task_effects : TaskEffects) (log before : List Mark) (workers : ℕ) (x : Mark) (r : Receipt)
+    → IsRun ranks workers (program ranks) (MayDo ranks) task_effects log → HasReceipt log before x r → AllSound kinds IsSound r.fence → all_told r ≡ total_of ranks r.fence
+totals_are_told ranks task_effects log before workers x r run has sound = all_counted ranks workers (program ranks) (MayDo ranks) task_effects log before x r run has (spawns_apart ranks task_effects log workers run)
     stage (staged ranks) (plan ranks) (home ranks) (units_before r.fence) (units_are ranks r.fence (few r.fence sound))
   where
     few : (fence : ℕ) → AllSound kinds IsSound fence → fence < 3

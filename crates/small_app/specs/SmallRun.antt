@@ -8,8 +8,8 @@ use Rattle.event_lists.specs.declared.mark.Mark.{Mark}
 use Rattle.event_lists.specs.declared.receipt.Row.{Row}
 use Rattle.event_lists.specs.declared.receipt.Receipt.{Receipt}
 use Rattle.event_lists.specs.Events.{main_of}
-use Rattle.event_lists.specs.Runs.{main_does}
-use Rattle.event_laws.specs.Follows.{Plans, effect_name}
+use Rattle.event_lists.specs.TaskRuns.{main_does}
+use Rattle.event_laws.specs.Follows.{TaskEffects, effect_name}
 use Rattle.small_app.specs.declared.unit.Unit.{Unit}
 use Rattle.small_app.specs.declared.unit.Unit.TheVariants.{Fill, Leaf, Sum, Clear}
 use Rattle.small_app.specs.Small.{first_result, leaf_future, leaf_entry, leaf_value, label_of, due_of, needs_of}
@@ -36,13 +36,13 @@ abbrev pub clear_task : TaskName
 clear_task = task_of Clear
 
 -- the effects of each task; one is on rank 1
-abbrev pub plans : Plans
-plans zero zero = Some (outlines_of 2 Fill)
-plans zero (suc zero) = Some (outlines_of 2 (Leaf true (leaf_value true)))
-plans zero (suc (suc zero)) = Some (outlines_of 2 Sum)
-plans zero (suc (suc (suc zero))) = Some (outlines_of 2 Clear)
-plans (suc zero) zero = Some (outlines_of 2 (Leaf false (leaf_value false)))
-plans _ _ = None
+abbrev pub task_effects : TaskEffects
+task_effects zero zero = Some (outlines_of 2 Fill)
+task_effects zero (suc zero) = Some (outlines_of 2 (Leaf true (leaf_value true)))
+task_effects zero (suc (suc zero)) = Some (outlines_of 2 Sum)
+task_effects zero (suc (suc (suc zero))) = Some (outlines_of 2 Clear)
+task_effects (suc zero) zero = Some (outlines_of 2 (Leaf false (leaf_value false)))
+task_effects _ _ = None
 
 -- an event of the main of a rank that carries out the effect at place i of task n
 abbrev pub acts : ℕ → ℕ → ℕ → Event → Mark

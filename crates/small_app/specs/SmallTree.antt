@@ -6,7 +6,7 @@ use Rattle.app_core.specs.declared.Outline.{Outline}
 use Rattle.app_core.specs.declared.Outline.TheVariants as of
 use Rattle.app_core.specs.Given.{Given}
 use Rattle.event_laws.specs.Follows.{Start, Wait}
-use Rattle.event_laws.specs.Trees.{unit_of, IsTree}
+use Rattle.event_laws.specs.Trees.{unit_of, LabelsAreTree}
 use Rattle.small_app.specs.declared.unit.Unit.{Unit}
 use Rattle.small_app.specs.declared.unit.Unit.TheVariants.{Fill, Leaf, Sum, Clear, Read, Count, Total, Guessed}
 use Rattle.small_app.specs.declared.guess.GuessUnit.TheVariants.{Guess, Early, Late}
@@ -153,7 +153,7 @@ start_place l = if l.command == 1 then 0 else if l.command == 5 then (if l.part 
 abbrev spawn_place : Label → ℕ
 spawn_place l = if l.part == 1 then 2 else if l.part == 0 then (if l.place == 3 then 1 else 0) else 0
 
-pub tree : (ranks : ℕ) → IsTree (program ranks) (MayDo ranks) parent
+pub tree : (ranks : ℕ) → LabelsAreTree (program ranks) (MayDo ranks) parent
 tree ranks = record {
   starts = starts_only ranks (λ k u. parent u ≡ None) refl refl refl refl refl refl;
   steps = spawns_only ranks (λ p i u. parent u ≡ Some p) refl refl refl refl refl;

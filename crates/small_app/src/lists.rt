@@ -16,24 +16,24 @@ impl ListLaws for SmallApp {
 
     ghost is_sound = { λ _ command. units.IsSound command };
 
-    ghost spawns_apart = { λ app plans log workers run. laws.spawns_apart app.ranks plans log workers run };
+    ghost spawns_apart = { λ app task_effects log workers run. laws.spawns_apart app.ranks task_effects log workers run };
 
-    ghost one_bringer = { λ app plans log workers run. laws.bringer_is_one app.ranks plans log workers run };
+    ghost one_bringer = { λ app task_effects log workers run. laws.bringer_is_one app.ranks task_effects log workers run };
 
-    ghost puts_apart = { λ app plans log workers run. laws.puts_apart app.ranks plans log workers run };
+    ghost puts_apart = { λ app task_effects log workers run. laws.puts_apart app.ranks task_effects log workers run };
 
-    ghost erases_apart = { λ app plans log workers run. laws.erases_apart app.ranks plans log workers run };
+    ghost erases_apart = { λ app task_effects log workers run. laws.erases_apart app.ranks task_effects log workers run };
 
-    ghost erases_put = { λ app plans log workers run. laws.erased_was_put app.ranks plans log workers run };
+    ghost erases_put = { λ app task_effects log workers run. laws.erased_was_put app.ranks task_effects log workers run };
 
-    ghost bins_hold = { λ app plans log before workers x r version command run has writes sound early.
-        laws.bins_hold app.ranks plans log before workers x r version command run has writes sound early };
+    ghost bins_hold = { λ app task_effects log before workers x r version command run has writes sound early.
+        laws.bins_hold app.ranks task_effects log before workers x r version command run has writes sound early };
 
     ghost sizes_are_right = { λ app rank version command _ writes sound. laws.sizes_are_right app.ranks rank version command writes sound };
 
     ghost other_sizes_are_right = { λ app rank version number _ none. laws.other_sizes_are_right app.ranks rank version number none };
 
-    ghost totals_are_told = { λ app plans log before workers x r run has sound. laws.totals_are_told app.ranks plans log before workers x r run has sound };
+    ghost totals_are_told = { λ app task_effects log before workers x r run has sound. laws.totals_are_told app.ranks task_effects log before workers x r run has sound };
 
     ghost reads_are_held = { λ app label entry _ reads _ _. laws.reads_are_held app.ranks label entry reads };
 

@@ -1,4 +1,4 @@
-use Rattle.event_core.proofs.BookExamples.{is_book, is_lawful, not_in_reverse, not_exchanged}
+use Rattle.event_core.proofs.BookExampleLemmas.{is_book, is_lawful, not_in_reverse, not_exchanged}
 use Rattle.event_core.proofs.examples.orders_of_parts_are_judged.Goals as goal
 
 pub returns-clause-book : goal.returns-clause-book

@@ -1,4 +1,4 @@
-use Rattle.event_core.proofs.BookParts.{takings_apart, numbers_apart}
+use Rattle.event_core.proofs.BookPartLemmas.{takings_apart, numbers_apart}
 use Rattle.event_core.proofs.laws.takings_and_numbers_of_a_lawful_book_are_apart.Goals as goal
 
 pub returns-clause-takings : goal.returns-clause-takings

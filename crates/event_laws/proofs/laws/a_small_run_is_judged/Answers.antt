@@ -1,4 +1,4 @@
-use Rattle.event_laws.proofs.Runs.{run, refused_start, refused_place, refused_give, refused_bin, refused_end}
+use Rattle.event_laws.proofs.SmallRunLemmas.{run, refused_start, refused_place, refused_give, refused_bin, refused_end}
 use Rattle.event_laws.proofs.laws.a_small_run_is_judged.Goals as goal
 
 pub returns-clause-whole_run : goal.returns-clause-whole_run

@@ -1,4 +1,4 @@
-use Rattle.event_laws.proofs.Programs.{stages}
+use Rattle.event_laws.proofs.ProgramLemmas.{stages}
 use Rattle.event_laws.proofs.receipts.labels_tell_the_fences_before.Goals as goal
 
 pub returns : goal.returns

@@ -1,4 +1,4 @@
-use Rattle.event_lists.proofs.Runs.{legal_run, refused_taken, refused_handled, refused_ran}
+use Rattle.event_lists.proofs.TaskRunLemmas.{legal_run, refused_taken, refused_handled, refused_ran}
 use Rattle.event_lists.proofs.laws.a_run_with_tasks_is_judged.Goals as goal
 
 pub returns-clause-whole_run : goal.returns-clause-whole_run

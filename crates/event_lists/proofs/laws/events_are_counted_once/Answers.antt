@@ -1,7 +1,7 @@
 use Rattle.event_lists.specs.declared.mark.Item.TheVariants.{Message, Task}
 use Rattle.event_lists.proofs.ItemLemmas.{made_once}
 use Rattle.event_lists.proofs.WaitingLemmas.{ended_le}
-use Rattle.event_lists.proofs.Given.{given_once}
+use Rattle.event_lists.proofs.GiveLemmas.{given_once}
 use Rattle.event_lists.proofs.laws.events_are_counted_once.Goals as goal
 
 pub returns-clause-messages : goal.returns-clause-messages

@@ -1,4 +1,4 @@
-use Rattle.event_lists.proofs.Books.{legal_first, legal_pass, illegal_second, legal_reading, illegal_third}
+use Rattle.event_lists.proofs.FenceRunLemmas.{legal_first, legal_pass, illegal_second, legal_reading, illegal_third}
 use Rattle.event_lists.proofs.laws.small_runs_are_judged.Goals as goal
 
 pub returns-clause-two_passes_and_a_receipt : goal.returns-clause-two_passes_and_a_receipt

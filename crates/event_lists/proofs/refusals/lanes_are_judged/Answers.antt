@@ -1,4 +1,4 @@
-use Rattle.event_lists.proofs.RefusedRuns.{entered, no_rank, worker_takes, no_worker, put_in_bin, no_bin}
+use Rattle.event_lists.proofs.RefusedRunLemmas.{entered, no_rank, worker_takes, no_worker, put_in_bin, no_bin}
 use Rattle.event_lists.proofs.refusals.lanes_are_judged.Goals as goal
 
 pub returns-clause-rank : goal.returns-clause-rank

@@ -1,4 +1,4 @@
-use Rattle.event_lists.proofs.RefusedRuns.{another_need, needed_twice, needed_beside_its_due, needed_its_due}
+use Rattle.event_lists.proofs.RefusedRunLemmas.{another_need, needed_twice, needed_beside_its_due, needed_its_due}
 use Rattle.event_lists.proofs.refusals.needs_are_judged.Goals as goal
 
 pub returns-clause-another_need : goal.returns-clause-another_need

@@ -1,4 +1,4 @@
-use Rattle.event_lists.proofs.RefusedRuns.{entered_with_dues, entered_without_a_due, ran_with_dues, ran_without_a_due}
+use Rattle.event_lists.proofs.RefusedRunLemmas.{entered_with_dues, entered_without_a_due, ran_with_dues, ran_without_a_due}
 use Rattle.event_lists.proofs.refusals.needs_without_dues_are_judged.Goals as goal
 
 pub returns-clause-enter : goal.returns-clause-enter

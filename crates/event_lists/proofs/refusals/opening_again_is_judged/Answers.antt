@@ -1,4 +1,4 @@
-use Rattle.event_lists.proofs.RefusedRuns.{opened_again, different_is_no_pass, equal_stays, submitted_is_open, fence_ends}
+use Rattle.event_lists.proofs.RefusedRunLemmas.{opened_again, different_is_no_pass, equal_stays, submitted_is_open, fence_ends}
 use Rattle.event_lists.proofs.refusals.opening_again_is_judged.Goals as goal
 
 pub returns-clause-different : goal.returns-clause-different

@@ -1,4 +1,4 @@
-use Rattle.event_lists.proofs.RefusedRuns.{sent_to_another, sent_to_itself, sent_to_nobody}
+use Rattle.event_lists.proofs.RefusedRunLemmas.{sent_to_another, sent_to_itself, sent_to_nobody}
 use Rattle.event_lists.proofs.refusals.sends_are_judged.Goals as goal
 
 pub returns-clause-to_another_rank : goal.returns-clause-to_another_rank

@@ -1,4 +1,4 @@
-use Rattle.event_lists.proofs.RefusedRuns.{took_in_a_fence, submitted_at_work, sent_at_work, submitted_in_a_fence, sent_in_a_fence, read_in_a_fence, read_at_work}
+use Rattle.event_lists.proofs.RefusedRunLemmas.{took_in_a_fence, submitted_at_work, sent_at_work, submitted_in_a_fence, sent_in_a_fence, read_in_a_fence, read_at_work}
 use Rattle.event_lists.proofs.refusals.work_in_a_fence_is_judged.Goals as goal
 
 pub returns-clause-takes : goal.returns-clause-takes

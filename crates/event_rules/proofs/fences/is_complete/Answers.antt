@@ -1,5 +1,5 @@
 use Rattle.std.proofs.Common.{sym, ◌∙◌, below_more, arith}
-use Rattle.event_rules.proofs.Passing.{there_is, there_is_none}
+use Rattle.event_rules.proofs.PassLemmas.{there_is, there_is_none}
 use Rattle.event_rules.proofs.fences.is_complete.Goals as goal
 
 pub returns-then-is_none : goal.returns-then-is_none

@@ -4,7 +4,7 @@ use Rattle.event_lists.specs.declared.kind.Kind.{Kind}
 use Rattle.event_lists.specs.declared.kind.Kind.TheVariants.{Handlings as handlings, Submissions as submissions, Runs as runs}
 use Rattle.event_lists.specs.declared.kind.Reading.{Reading}
 use Rattle.event_lists.specs.Fences.{reading, InOrder}
-use Rattle.event_rules.proofs.Passing.{last_is, two_are}
+use Rattle.event_rules.proofs.PassLemmas.{last_is, two_are}
 use Rattle.event_rules.proofs.fences.is_in_order.Goals as goal
 
 pub returns-in-Runs : goal.returns-in-Runs

@@ -1,4 +1,4 @@
-use Rattle.event_rules.proofs.Passing.{ready_is}
+use Rattle.event_rules.proofs.PassLemmas.{ready_is}
 use Rattle.event_rules.proofs.fences.is_ready.Goals as goal
 
 pub returns-else-pass-lt2 : goal.returns-else-pass-lt2

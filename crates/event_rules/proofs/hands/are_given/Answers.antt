@@ -4,7 +4,7 @@ use Rattle.app_core.specs.declared.label.Label.{Label}
 use Rattle.event_lists.specs.declared.future.Bringer.{Bringer}
 use Rattle.event_lists.specs.Futures.{times_given}
 use Rattle.event_rules.specs.States.{AreGiven}
-use Rattle.event_rules.proofs.Loops.{given_each, passes, not_both}
+use Rattle.event_rules.proofs.LoopLemmas.{given_each, passes, not_both}
 use Rattle.event_rules.proofs.hands.are_given.Goals as goal
 
 pub returns-then-not-future : goal.returns-then-not-future

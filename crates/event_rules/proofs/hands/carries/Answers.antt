@@ -1,4 +1,4 @@
-use Rattle.event_rules.proofs.Takings.{parcel_carried, none_carried}
+use Rattle.event_rules.proofs.TakingLemmas.{parcel_carried, none_carried}
 use Rattle.event_rules.proofs.hands.carries.Goals as goal
 
 pub returns-in-Some : goal.returns-in-Some

@@ -1,5 +1,5 @@
 use Rattle.std.proofs.Common.{rules}
-use Rattle.event_rules.proofs.Keeping.{given_shown}
+use Rattle.event_rules.proofs.DueLemmas.{given_shown}
 use Rattle.event_rules.proofs.hands.may_give.Goals as goal
 
 pub returns-then-keeps_due : goal.returns-then-keeps_due

@@ -1,5 +1,5 @@
 use Rattle.std.proofs.Common.{rules}
-use Rattle.event_rules.proofs.Takings.{message_taken, no_message_taken}
+use Rattle.event_rules.proofs.TakingLemmas.{message_taken, no_message_taken}
 use Rattle.event_rules.proofs.hands.may_take_message.Goals as goal
 
 pub returns-then-goes_to : goal.returns-then-goes_to

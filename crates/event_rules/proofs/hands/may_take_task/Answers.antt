@@ -1,5 +1,5 @@
 use Rattle.std.proofs.Common.{rules}
-use Rattle.event_rules.proofs.Takings.{task_taken, no_task_taken, message_load}
+use Rattle.event_rules.proofs.TakingLemmas.{task_taken, no_task_taken, message_load}
 use Rattle.event_rules.proofs.hands.may_take_task.Goals as goal
 
 pub returns-in_default : goal.returns-in_default

@@ -1,5 +1,5 @@
 use Rattle.std.proofs.Common.{rules}
-use Rattle.event_rules.proofs.Passing.{receivable_is}
+use Rattle.event_rules.proofs.PassLemmas.{receivable_is}
 use Rattle.event_rules.proofs.receipts.is_receivable.Goals as goal
 
 pub returns-then-agree : goal.returns-then-agree

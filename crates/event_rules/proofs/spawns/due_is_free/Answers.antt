@@ -4,7 +4,7 @@ use Rattle.app_core.specs.declared.label.Label.{Label}
 use Rattle.event_lists.specs.Events.{part}
 use Rattle.event_lists.specs.Futures.{bringer}
 use Rattle.event_lists.specs.Dues.{DueIsFree}
-use Rattle.event_rules.proofs.Keeping.{own_due_free}
+use Rattle.event_rules.proofs.DueLemmas.{own_due_free}
 use Rattle.event_rules.proofs.spawns.due_is_free.Goals as goal
 
 pub returns-then-is_own : goal.returns-then-is_own

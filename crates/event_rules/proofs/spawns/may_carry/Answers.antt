@@ -1,7 +1,7 @@
 use Rattle.std.proofs.Common.{◌≡◌, ◌↔◌, sym, subst, true}
 use Rattle.event_lists.specs.declared.event.Parcel.{Parcel}
 use Rattle.event_rules.specs.States.{MayCarry}
-use Rattle.event_rules.proofs.Keeping.{give_shown}
+use Rattle.event_rules.proofs.DueLemmas.{give_shown}
 use Rattle.event_rules.proofs.spawns.may_carry.Goals as goal
 
 pub returns-in-Give : goal.returns-in-Give

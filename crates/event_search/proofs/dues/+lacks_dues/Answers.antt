@@ -4,7 +4,7 @@ use Rattle.std.proofs.lemmas.List.{reverse-append}
 use Rattle.app_core.specs.declared.label.Label.{Label}
 use Rattle.app_core.specs.Outlines.{same_label}
 use Rattle.event_lists.specs.Futures.{spawned_needs, was_due}
-use Rattle.event_search.proofs.Lacking.{lacking_before}
+use Rattle.event_search.proofs.LackingLemmas.{lacking_before}
 use Rattle.event_search.proofs.dues.+lacks_dues.Goals as goal
 
 pub returns-else-lacks_one : goal.returns-else-lacks_one

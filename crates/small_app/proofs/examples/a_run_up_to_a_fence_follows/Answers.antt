@@ -1,4 +1,4 @@
-use Rattle.small_app.proofs.SmallRun.{run, received, all_sound}
+use Rattle.small_app.proofs.SmallRunLemmas.{run, received, all_sound}
 use Rattle.small_app.proofs.examples.a_run_up_to_a_fence_follows.Goals as goal
 
 pub returns-clause-run : goal.returns-clause-run

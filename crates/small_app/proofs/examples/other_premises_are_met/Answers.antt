@@ -1,6 +1,6 @@
 use Rattle.std.proofs.Common.{refl, arith}
 use Rattle.small_app.specs.declared.unit.Unit.TheVariants.{Read, Count}
-use Rattle.small_app.proofs.SmallRun.{last_is_unsound}
+use Rattle.small_app.proofs.SmallRunLemmas.{last_is_unsound}
 use Rattle.small_app.proofs.examples.other_premises_are_met.Goals as goal
 
 pub returns-clause-read : goal.returns-clause-read

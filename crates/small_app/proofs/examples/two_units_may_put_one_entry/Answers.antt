@@ -1,6 +1,6 @@
 use Rattle.std.proofs.Common.{refl, ap, arith}
 use Rattle.small_app.specs.Guess.{guess_entry}
-use Rattle.small_app.proofs.SmallRun.{early_may, late_may}
+use Rattle.small_app.proofs.SmallRunLemmas.{early_may, late_may}
 use Rattle.app_core.specs.declared.Label.{Label}
 use Rattle.small_app.proofs.examples.two_units_may_put_one_entry.Goals as goal
 
