@@ -170,31 +170,40 @@ fn commands_start_their_units(rt: HostRuntime) {
     assert!(rt; are(app.starts(alloc, 5, 2), &guessing));
 }
 
+const LEFT: Unit = Unit::Leaf {
+    right: false,
+    value: 5,
+};
+
+const RIGHT: Unit = Unit::Leaf {
+    right: true,
+    value: 7,
+};
+
+#[test]
+fn the_first_command_spawns_two_leaves_and_their_sum(rt: HostRuntime) {
+    let app = app(4);
+    let alloc = rt.alloc();
+    let needs = [future(1, 2), future(1, 3)];
+    let filled = [
+        LentEffect::Spawn(LEFT),
+        LentEffect::Spawn(RIGHT),
+        LentEffect::SpawnNeeding(Unit::Sum, &needs),
+    ];
+    let none = Inputs::new(Vec::new(alloc), Vec::new(alloc), 0);
+    assert!(rt; are(step(&app, alloc, Unit::Fill, none), &filled));
+}
+
 #[test]
 fn the_first_command_gives_twelve(rt: HostRuntime) -> Result<(), Fail> {
     let app = app(4);
     let alloc = rt.alloc();
     let none = || Inputs::new(Vec::new(alloc), Vec::new(alloc), 0);
-    let left = Unit::Leaf {
-        right: false,
-        value: 5,
-    };
-    let right = Unit::Leaf {
-        right: true,
-        value: 7,
-    };
-    let needs = [future(1, 2), future(1, 3)];
-    let filled = [
-        LentEffect::Spawn(left),
-        LentEffect::Spawn(right),
-        LentEffect::SpawnNeeding(Unit::Sum, &needs),
-    ];
-    assert!(rt; are(step(&app, alloc, Unit::Fill, none()), &filled));
     let put = [
         LentEffect::Put(entry(3), 7),
         LentEffect::Give(future(1, 3), 7),
     ];
-    assert!(rt; are(step(&app, alloc, right, none()), &put));
+    assert!(rt; are(step(&app, alloc, RIGHT, none()), &put));
     let values = [5u64, 7].to_vec(alloc)?;
     let given = Inputs::new(values, Vec::new(alloc), 0);
     let summed = [
@@ -202,12 +211,8 @@ fn the_first_command_gives_twelve(rt: HostRuntime) -> Result<(), Fail> {
         LentEffect::Give(future(1, 1), 12),
     ];
     assert!(rt; are(step(&app, alloc, Unit::Sum, given), &summed));
-    assert!(rt;
-        are(
-            step(&app, alloc, Unit::Clear, none()),
-            &[LentEffect::Erase(entry(3))]
-        )
-    );
+    let erased = [LentEffect::Erase(entry(3))];
+    assert!(rt; are(step(&app, alloc, Unit::Clear, none()), &erased));
     Ok(())
 }
 
