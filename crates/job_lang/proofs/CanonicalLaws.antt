@@ -18,15 +18,16 @@ use Rattle.tree_model.specs.Jobs.{JobData}
 use Rattle.job_lang.specs.declared.function_form.FunctionForm.{FunctionForm}
 use Rattle.job_lang.specs.declared.function_form.FunctionForm.TheVariants.{Const as ConstForm, Ramp as RampForm, Step as StepForm, Box as BoxForm, Hash as HashForm}
 use Rattle.job_lang.specs.Canonical.{function_words, command_words, header_words, command_text, canonical_text}
-use Rattle.job_lang.specs.Checks.{has_names, has_numbers, is_within_limits, has_room, has_trees, has_forms, is_near_fence, may_follow, is_accepted, are_accepted, IsJob}
+use Rattle.job_data.specs.Checks.{has_names, has_numbers, is_within_limits, has_room, has_trees, has_forms, is_near_fence, may_follow, is_accepted, are_accepted, IsJob}
 use Rattle.tree_model.specs.Signatures.{is_factor}
 use Rattle.job_lang.specs.Grammar.{function_at, function_of_form, header_of}
 use Rattle.job_words.specs.Lines.{Words, words, is_passed_over, line_of}
 use Rattle.job_words.specs.Names.{is_name}
 use Rattle.job_words.specs.Numbers.{number}
-use Rattle.job_lang.specs.declared.fault_kind.FaultKind.{FaultKind}
-use Rattle.job_lang.specs.declared.fault_kind.FaultKind.TheVariants.{ForeignByte, NoHeader, BeyondLimits, UnknownTree, WrongForm, FarFromFence}
-use Rattle.job_lang.specs.Reading.{checked, read, checked_command, command_of_words, command_of_line, depth_of_line, header_from, commands_from, job_with, job_behind, reading_of}
+use Rattle.job_data.specs.declared.fault_kind.FaultKind.{FaultKind}
+use Rattle.job_data.specs.declared.fault_kind.FaultKind.TheVariants.{ForeignByte, NoHeader, BeyondLimits, UnknownTree, WrongForm, FarFromFence}
+use Rattle.job_data.specs.CheckedCommands.{checked, checked_command}
+use Rattle.job_lang.specs.Reading.{read, command_of_words, command_of_line, depth_of_line, header_from, commands_from, job_with, job_behind, reading_of}
 use Rattle.job_words.proofs.WordLaws.{IsWord, AreWords, words-line_of, line_of-printable, line_of-allowed, lines-line, decimal-word, number-decimal, number-signed, signed-word, name-word}
 
 abbrev Small : ℤ → Type 0

@@ -10,13 +10,14 @@ use Rattle.std.proofs.lemmas.List.Sums.{prefix_len_passes}
 use Rattle.tree_model.specs.Commands.{Command}
 use Rattle.tree_model.specs.Jobs.{JobData}
 use Rattle.job_lang.specs.declared.fault.JobFault.{JobFault}
-use Rattle.job_lang.specs.declared.fault_kind.FaultKind.{FaultKind}
-use Rattle.job_lang.specs.declared.fault_kind.FaultKind.TheVariants.{ForeignByte, NoHeader}
+use Rattle.job_data.specs.declared.fault_kind.FaultKind.{FaultKind}
+use Rattle.job_data.specs.declared.fault_kind.FaultKind.TheVariants.{ForeignByte, NoHeader}
 use Rattle.job_words.specs.Lines.{words, is_allowed, is_passed_over}
 use Rattle.job_lang.specs.FirstFaults.{line_at, header_at, header_kind, depth_told, said, lines_after, said_before, kind_at, IsFirstFault, IsFaultless}
 use Rattle.job_lang.specs.Grammar.{header_of}
 use Rattle.job_lang.specs.Kinds.{command_in, kind_answered, command_answered, lowest_kind}
-use Rattle.job_lang.specs.Reading.{Header, checked, read, command_of_line, commands_from, depth_of_line, header_behind, header_from, job_with, job_behind, reading_of}
+use Rattle.job_data.specs.CheckedCommands.{checked}
+use Rattle.job_lang.specs.Reading.{Header, read, command_of_line, commands_from, depth_of_line, header_behind, header_from, job_with, job_behind, reading_of}
 use Rattle.job_lang.proofs.KindLaws.{line_kind, line_said}
 
 -- the lowest kind of a line after the header's

@@ -5,13 +5,14 @@ use Rattle.std.specs.List.{list_all}
 use Rattle.std.specs.Option.{option_map_or}
 use Rattle.tree_model.specs.Commands.{Command}
 use Rattle.job_lang.specs.declared.verb.Verb.{Verb}
-use Rattle.job_lang.specs.Checks.{has_numbers, has_room, has_trees, has_forms, is_near_fence}
+use Rattle.job_data.specs.Checks.{has_numbers, has_room, has_trees, has_forms, is_near_fence}
 use Rattle.job_lang.specs.Grammar.{◌>>=◌, Form, verb_of, form_of, command_of_form}
 use Rattle.job_lang.specs.Kinds.{verb_in, form_in, command_in, kind_answered, command_answered, lowest_kind}
 use Rattle.job_words.specs.Lines.{Words, words, is_allowed, is_passed_over}
-use Rattle.job_lang.specs.declared.fault_kind.FaultKind.{FaultKind}
-use Rattle.job_lang.specs.declared.fault_kind.FaultKind.TheVariants.{ForeignByte, UnknownCommand, WrongWords, BeyondLimits, UnknownTree, WrongForm, FarFromFence}
-use Rattle.job_lang.specs.Reading.{checked, read, checked_command, command_of_words, command_of_line}
+use Rattle.job_data.specs.declared.fault_kind.FaultKind.{FaultKind}
+use Rattle.job_data.specs.declared.fault_kind.FaultKind.TheVariants.{ForeignByte, UnknownCommand, WrongWords, BeyondLimits, UnknownTree, WrongForm, FarFromFence}
+use Rattle.job_data.specs.CheckedCommands.{checked, checked_command}
+use Rattle.job_lang.specs.Reading.{read, command_of_words, command_of_line}
 
 -- the lowest kind, from what the words say
 abbrev lowest : Bool → Option Verb → Option Form → Option Command → ℕ → List Command → Option FaultKind

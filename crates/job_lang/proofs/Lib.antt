@@ -1,12 +1,6 @@
-pub mod CheckLaws
-pub mod WriterLaws
-pub mod HistoryLaws
 pub mod LimitLaws
 pub mod ReadLaws
 pub mod CanonicalLaws
 pub mod PlanLaws
 pub mod KindLaws
-pub mod MeaningLaws
 pub mod FirstFaultLaws
-pub mod CommandLemmas
-pub mod FoundLemmas

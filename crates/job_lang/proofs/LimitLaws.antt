@@ -9,15 +9,16 @@ use Rattle.tree_model.specs.Commands.{Command}
 use Rattle.tree_model.specs.Commands.Command.{Project as ProjectCommand, Refine as RefineCommand}
 use Rattle.tree_model.specs.Functions.{Function, fits, max_depth, max_value, max_difference, is_value}
 use Rattle.tree_model.specs.Functions.Function.{Step as StepFunction, Box as BoxFunction, Hash as HashFunction}
-use Rattle.job_lang.specs.declared.fault_kind.FaultKind.{FaultKind}
-use Rattle.job_lang.specs.declared.fault_kind.FaultKind.TheVariants.{BeyondLimits, UnknownTree, WrongForm, FarFromFence}
+use Rattle.job_data.specs.declared.fault_kind.FaultKind.{FaultKind}
+use Rattle.job_data.specs.declared.fault_kind.FaultKind.TheVariants.{BeyondLimits, UnknownTree, WrongForm, FarFromFence}
 use Rattle.job_lang.specs.declared.function_form.FunctionForm.{FunctionForm}
 use Rattle.job_lang.specs.declared.function_form.FunctionForm.TheVariants.{Const, Ramp, Step, Box, Hash}
-use Rattle.job_lang.specs.Checks.{has_numbers, has_room, has_trees, has_forms, is_near_fence}
+use Rattle.job_data.specs.Checks.{has_numbers, has_room, has_trees, has_forms, is_near_fence}
 use Rattle.job_lang.specs.Grammar.{◌>>=◌, Form, size_of, command_of_form, function_of_form}
 use Rattle.job_lang.specs.Grammar.Form.{ProjectForm, RefineForm, CompressForm, ReconstructForm, AddForm, MulForm, InnerForm, PrintForm, FenceForm}
 use Rattle.job_lang.specs.Limits.{size_up_to, max_8_bits, max_32_bits, small_function, small_command}
-use Rattle.job_lang.specs.Reading.{checked, read, checked_command}
+use Rattle.job_data.specs.CheckedCommands.{checked, checked_command}
+use Rattle.job_lang.specs.Reading.{read}
 
 -- a number that is only refused later where it is above a limit may be refused at once
 sized : {A : Type 0} (limit : ℕ) (z : ℤ) (next : ℕ → Option A) → ((n : ℕ) → nat_le n limit ≡ false → next n ≡ None) → (size_up_to limit z >>= next) ≡ (size_of z >>= next)

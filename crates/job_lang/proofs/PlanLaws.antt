@@ -1,7 +1,7 @@
 -- The plan of one more command.
 use Rattle.std.proofs.Common.{◌≡◌, List, [], ◌∷◌, ◌++◌, ap, refl, append_assoc, append-nil}
 use Rattle.tree_model.specs.Commands.{Command}
-use Rattle.job_lang.specs.Versions.{step_of, plan_from}
+use Rattle.job_data.specs.Versions.{step_of, plan_from}
 
 pub plan_from-append : (before cs : List Command) (c : Command) → plan_from before (cs ++ c ∷ []) ≡ plan_from before cs ++ step_of (before ++ cs) c ∷ []
 plan_from-append before [] c = rw append-nil refl

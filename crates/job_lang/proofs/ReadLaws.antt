@@ -1,51 +1,14 @@
 -- What the words of a line say, one reading after another.
-use Rattle.std.proofs.Common.{◌≡◌, ℕ, Bool, true, false, List, ◌∷◌, refl, sym}
-use Rattle.std.specs.Prelude.{◌&&◌, Option, Some, None, is_some, not, Ok, Err}
+use Rattle.std.proofs.Common.{◌≡◌, ℕ, List, ◌∷◌, refl}
+use Rattle.std.specs.Prelude.{Some}
 use Rattle.tree_model.specs.Commands.{Command}
 use Rattle.job_lang.specs.declared.verb.Verb.{Verb}
-use Rattle.job_lang.specs.Checks.{has_names, has_numbers, has_room, has_trees, has_forms, is_near_fence, may_follow, is_accepted}
 use Rattle.job_lang.specs.Grammar.{Form, verb_of, form_of, command_of_form}
 use Rattle.job_words.specs.Lines.{Words}
-use Rattle.job_lang.specs.declared.fault_kind.FaultKind.{FaultKind}
-use Rattle.job_lang.specs.declared.fault_kind.FaultKind.TheVariants.{BeyondLimits, UnknownTree, WrongForm, FarFromFence}
-use Rattle.job_lang.specs.Reading.{checked, read, checked_command, command_of_words, unless_fault}
+use Rattle.job_data.specs.declared.fault_kind.FaultKind.TheVariants.{BeyondLimits}
+use Rattle.job_data.specs.CheckedCommands.{checked_command}
+use Rattle.job_lang.specs.Reading.{read, command_of_words}
 
 -- what words say, one reading after another
 pub command_of_words-form : (depth : ℕ) (before : List Command) (words : Words) (first : List ℕ) (rest : Words) (verb : Verb) (form : Form) → words ≡ first ∷ rest → verb_of first ≡ Some verb → form_of verb rest ≡ Some form → command_of_words depth before words ≡ read BeyondLimits (command_of_form form) (checked_command depth before)
 command_of_words-form depth before words first rest verb form is_words is_verb is_form = rw (is_words, is_verb, is_form) refl
-
-all_hold : (c : Command) (a b t f n : Bool) → Ok c ≡ checked BeyondLimits (a && b) (checked UnknownTree t (checked WrongForm f (checked FarFromFence n (Ok c)))) → (a && (b && (t && (f && n)))) ≡ true
-all_hold c true true true true true is = refl
-all_hold c true true true true false is = cc
-all_hold c true true true false n is = cc
-all_hold c true true false f n is = cc
-all_hold c true false t f n is = cc
-all_hold c false b t f n is = cc
-
-regrouped : (m a b t f n : Bool) → m ≡ true → (a && (b && (t && (f && n)))) ≡ true → ((m && a) && (b && (t && (f && n)))) ≡ true
-regrouped true a b t f n names all = all
-regrouped false a b t f n names all = cc
-
--- a command without a fault is accepted
-pub checked-accepted : (depth : ℕ) (before : List Command) (c : Command) → has_names c ≡ true → Ok c ≡ checked_command depth before c → is_accepted depth before c ≡ true
-checked-accepted depth before c names is =
-    let all = all_hold c (has_numbers depth c) (has_room before c) (has_trees before c) (has_forms before c) (is_near_fence before c) is in
-    regrouped (has_names c) (has_numbers depth c) (has_room before c) (has_trees before c) (has_forms before c) (is_near_fence before c) names all
-
-some_fault : (k : FaultKind) (c : Command) (a b t f n : Bool) → Err k ≡ checked BeyondLimits (a && b) (checked UnknownTree t (checked WrongForm f (checked FarFromFence n (Ok c)))) → (a && (b && (t && (f && n)))) ≡ false
-some_fault k c true true true true true is = cc
-some_fault k c true true true true false is = refl
-some_fault k c true true true false n is = refl
-some_fault k c true true false f n is = refl
-some_fault k c true false t f n is = refl
-some_fault k c false b t f n is = refl
-
-not_within : (m a rest : Bool) → m ≡ true → (a && rest) ≡ false → ((m && a) && rest) ≡ false
-not_within true a rest names is = is
-not_within false a rest names is = cc
-
--- a command is accepted exactly where it has no fault
-pub faultless : (depth : ℕ) (before : List Command) (c : Command) (fault : Option FaultKind) → has_names c ≡ true → unless_fault fault c ≡ checked_command depth before c → not (is_some fault) ≡ is_accepted depth before c
-faultless depth before c None names is = sym (checked-accepted depth before c names is)
-faultless depth before c (Some kind) names is =
-    sym (not_within (has_names c) (has_numbers depth c) (may_follow before c) names (some_fault kind c (has_numbers depth c) (has_room before c) (has_trees before c) (has_forms before c) (is_near_fence before c) is))

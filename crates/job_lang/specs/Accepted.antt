@@ -1,8 +1,8 @@
 -- What the commands that were accepted so far keep.
 use Rattle.tree_model.specs.Jobs.{JobData}
-use Rattle.job_lang.specs.declared.history.History.{History}
-use Rattle.job_lang.specs.Checks.{IsJob}
-use Rattle.job_lang.specs.Recalls.{Recalls}
+use Rattle.job_data.specs.declared.history.History.{History}
+use Rattle.job_data.specs.Checks.{IsJob}
+use Rattle.job_data.specs.Recalls.{Recalls}
 
 -- they are a job, and the history is theirs
 pub record IsRecalled (job : JobData) (history : History) : Type 0 where

@@ -6,8 +6,8 @@ use Rattle.std.specs.Str.Lines.{lines as lines_of}
 use Rattle.tree_model.specs.Commands.{Command}
 use Rattle.tree_model.specs.Jobs.{JobData}
 use Rattle.job_lang.specs.declared.fault.JobFault.{JobFault}
-use Rattle.job_lang.specs.declared.fault_kind.FaultKind.{FaultKind}
-use Rattle.job_lang.specs.declared.fault_kind.FaultKind.TheVariants.{ForeignByte, NoHeader}
+use Rattle.job_data.specs.declared.fault_kind.FaultKind.{FaultKind}
+use Rattle.job_data.specs.declared.fault_kind.FaultKind.TheVariants.{ForeignByte, NoHeader}
 use Rattle.job_words.specs.Lines.{words, is_passed_over}
 use Rattle.job_lang.specs.Grammar.{header_of}
 use Rattle.job_lang.specs.Kinds.{command_in, has_foreign_byte, lowest_kind}

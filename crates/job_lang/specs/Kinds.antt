@@ -5,11 +5,11 @@ use Rattle.std.specs.List.{list_all}
 use Rattle.std.specs.Option.{option_map_or}
 use Rattle.tree_model.specs.Commands.{Command}
 use Rattle.job_lang.specs.declared.verb.Verb.{Verb}
-use Rattle.job_lang.specs.Checks.{has_numbers, has_room, has_trees, has_forms, is_near_fence}
+use Rattle.job_data.specs.Checks.{has_numbers, has_room, has_trees, has_forms, is_near_fence}
 use Rattle.job_lang.specs.Grammar.{◌>>=◌, Form, verb_of, form_of, command_of_form}
 use Rattle.job_words.specs.Lines.{Words, words, is_allowed, is_passed_over}
-use Rattle.job_lang.specs.declared.fault_kind.FaultKind.{FaultKind}
-use Rattle.job_lang.specs.declared.fault_kind.FaultKind.TheVariants.{ForeignByte, UnknownCommand, WrongWords, BeyondLimits, UnknownTree, WrongForm, FarFromFence}
+use Rattle.job_data.specs.declared.fault_kind.FaultKind.{FaultKind}
+use Rattle.job_data.specs.declared.fault_kind.FaultKind.TheVariants.{ForeignByte, UnknownCommand, WrongWords, BeyondLimits, UnknownTree, WrongForm, FarFromFence}
 use Rattle.job_lang.specs.Reading.{command_of_line}
 
 -- the verb, the form and the command that words say, where they say one

@@ -1,37 +1,20 @@
 -- The job that a list of bytes is, or its fault: the lowest kind that the first line with one has.
-use Rattle.std.specs.Prelude.{ℕ, ◌+◌, ◌&&◌, Bool, List, [], ◌∷◌, ◌++◌, Option, Some, None, Result, Ok, Err, if◌then◌else◌}
+use Rattle.std.specs.Prelude.{ℕ, ◌+◌, List, [], ◌∷◌, ◌++◌, Option, Some, None, Result, Ok, Err, if◌then◌else◌}
 use Rattle.std.specs.List.{list_all}
 use Rattle.std.specs.Str.Lines.{lines}
 use Rattle.tree_model.specs.Commands.{Command}
 use Rattle.tree_model.specs.Jobs.{JobData}
 use Rattle.job_lang.specs.declared.fault.JobFault.{JobFault}
-use Rattle.job_lang.specs.declared.fault_kind.FaultKind.{FaultKind}
-use Rattle.job_lang.specs.declared.fault_kind.FaultKind.TheVariants.{ForeignByte, NoHeader, UnknownCommand, WrongWords, BeyondLimits, UnknownTree, WrongForm, FarFromFence}
+use Rattle.job_data.specs.declared.fault_kind.FaultKind.{FaultKind}
+use Rattle.job_data.specs.declared.fault_kind.FaultKind.TheVariants.{ForeignByte, NoHeader, UnknownCommand, WrongWords, BeyondLimits}
 use Rattle.job_words.specs.Lines.{Words, words, is_allowed, is_passed_over}
 use Rattle.job_lang.specs.Grammar.{header_of, verb_of, form_of, command_of_form}
-use Rattle.job_lang.specs.Checks.{has_numbers, has_room, has_trees, has_forms, is_near_fence}
-
--- what comes where a check holds, and else the kind of fault
-abbrev pub checked : {A : Type 0} → FaultKind → Bool → Result A FaultKind → Result A FaultKind
-checked kind holds next = if holds then next else Err kind
+use Rattle.job_data.specs.CheckedCommands.{checked, checked_command}
 
 -- what comes of a value, and where there is none the kind of fault
 abbrev pub read : {A B : Type 0} → FaultKind → Option A → (A → Result B FaultKind) → Result B FaultKind
 read kind None next = Err kind
 read kind (Some x) next = next x
-
--- a value, where there is no kind of fault
-abbrev pub unless_fault : {A : Type 0} → Option FaultKind → A → Result A FaultKind
-unless_fault None x = Ok x
-unless_fault (Some kind) x = Err kind
-
--- a command behind those before it, or the lowest kind of fault that it has
-abbrev pub checked_command : ℕ → List Command → Command → Result Command FaultKind
-checked_command depth before c =
-    checked BeyondLimits (has_numbers depth c && has_room before c)
-    (checked UnknownTree (has_trees before c)
-    (checked WrongForm (has_forms before c)
-    (checked FarFromFence (is_near_fence before c) (Ok c))))
 
 -- the command that words say, the first of which is its verb
 abbrev pub command_of_words : ℕ → List Command → Words → Result Command FaultKind

@@ -2,22 +2,20 @@
 ghost use Rattle.std.specs.Prelude.{◌≡◌, ℕ, List, [], ◌∷◌, ◌++◌, ◌+◌, ◌≤◌, true, IfOk, OnOk, OnErr};
 ghost use Rattle.tree_model.specs.Functions.{max_depth};
 ghost use Rattle.job_lang.specs.declared.fault.JobFault.{JobFault as FaultData};
-ghost use Rattle.job_lang.specs.Checks.{is_accepted};
+ghost use Rattle.job_data.specs.Checks.{is_accepted};
 ghost use Rattle.job_words.specs.Lines.{words as line_words};
 ghost use Rattle.job_lang.specs.Code.{form_data};
-ghost use Rattle.job_lang.specs.declared.fault_kind.FaultKind.TheVariants.{BeyondLimits};
+ghost use Rattle.job_data.specs.declared.fault_kind.FaultKind.TheVariants.{BeyondLimits};
 ghost use Rattle.job_lang.specs.Grammar.{command_of_form};
-ghost use Rattle.job_lang.specs.Reading.{checked_command, command_of_line, command_of_words, commands_from, read};
+ghost use Rattle.job_data.specs.CheckedCommands.{checked_command};
+ghost use Rattle.job_lang.specs.Reading.{command_of_line, command_of_words, commands_from, read};
 ghost use Rattle.job_lang.specs.Slices.{texts};
 
-use crate::command::Command;
 use crate::fault::JobFault;
-use crate::fault_kind::FaultKind;
 use crate::form::Form;
-use crate::history::History;
-use crate::job::Job;
 use crate::parse_error::ParseError;
 use crate::verb::Verb;
+use job_data::{Command, FaultKind, History, Job};
 use job_words::{has_allowed_bytes, is_passed_over, words_of};
 use std::alloc::{AllocError, Global};
 use std::marker::Model;
@@ -34,7 +32,7 @@ impl Model for Accepted {
     ghost use Rattle.std.specs.Prelude.{map};
     ghost use Rattle.tree_model.specs.Jobs.{JobData};
     ghost use Rattle.job_lang.specs.Accepted.{IsRecalled};
-    ghost use Rattle.job_lang.specs.Data.{data_of};
+    ghost use Rattle.job_data.specs.Data.{data_of};
 
     ghost Value = { JobData };
 
@@ -44,7 +42,7 @@ impl Model for Accepted {
 }
 
 impl Accepted {
-    ghost use Rattle.job_lang.specs.Data.{command_read, data_of};
+    ghost use Rattle.job_data.specs.Data.{command_read, data_of};
 
     /// No commands, at a depth from 0 to 16.
     pub fn new(alloc: Global, depth: u8) -> Accepted

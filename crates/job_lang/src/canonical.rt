@@ -4,14 +4,13 @@ ghost use Rattle.std.specs.Fmt.{signed_decimal};
 ghost use Rattle.haar_node.specs.Func.{function_of};
 ghost use Rattle.job_lang.specs.Canonical.{canonical_text, command_text, command_words, function_words, header_words};
 ghost use Rattle.job_words.specs.Lines.{line_of, spaced};
-ghost use Rattle.job_lang.specs.Data.{data_of};
+ghost use Rattle.job_data.specs.Data.{data_of};
 ghost use Rattle.job_lang.specs.Reading.{reading_of};
 ghost use Rattle.tree_model.specs.Commands.Command.{Add, Mul, Project};
 
-use crate::command::Command;
-use crate::job::Job;
 use haar_node::Func;
 use itoa::Buffer;
+use job_data::{Command, Job};
 use std::alloc::Global;
 use tree_key::{OutOfMemory, Text};
 

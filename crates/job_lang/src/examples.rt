@@ -5,9 +5,9 @@ ghost use Rattle.tree_model.specs.Commands.Command.{Add, Compress, Fence, Inner,
 ghost use Rattle.job_lang.specs.Canonical.{canonical_text};
 ghost use Rattle.job_lang.specs.Faults.{fault_line};
 ghost use Rattle.job_lang.specs.Reading.{reading_of};
-ghost use Rattle.job_lang.specs.Versions.{plan_of};
-ghost use Rattle.job_lang.specs.declared.fault_kind.FaultKind.TheVariants.{BeyondLimits, FarFromFence, ForeignByte, NoHeader, UnknownCommand, UnknownTree, WrongForm, WrongWords};
-ghost use Rattle.job_lang.specs.declared.sources.Sources.TheVariants.{Nothing, One, Two};
+ghost use Rattle.job_data.specs.Versions.{plan_of};
+ghost use Rattle.job_data.specs.declared.fault_kind.FaultKind.TheVariants.{BeyondLimits, FarFromFence, ForeignByte, NoHeader, UnknownCommand, UnknownTree, WrongForm, WrongWords};
+ghost use Rattle.job_data.specs.declared.sources.Sources.TheVariants.{Nothing, One, Two};
 
 /// Without any line the header is missing on line 1.
 pub fn empty_input()

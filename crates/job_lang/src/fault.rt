@@ -1,7 +1,7 @@
 //! The first fault of a text that isn't a job, and its line.
 ghost use Rattle.std.specs.Prelude.{◌≡◌, Some};
 
-use crate::fault_kind::FaultKind;
+use job_data::FaultKind;
 use std::error::Error;
 use std::fmt;
 

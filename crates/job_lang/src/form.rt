@@ -9,8 +9,8 @@ use crate::fields::{
     function_at, keyword, name_at, no_more, number_at, one_name, size_at, two_names,
 };
 use crate::function_form::FunctionForm;
-use crate::job::MAX_DEPTH;
 use crate::verb::Verb;
+use job_data::MAX_DEPTH;
 use job_words::Name;
 
 /// A line of a job as its words say it, with any numbers.

@@ -3,8 +3,8 @@
 ghost use Rattle.std.specs.Prelude.{◌≡◌, [], ◌∷◌, ◌++◌, None, Some, codes, false, map, replicate, true};
 ghost use Rattle.std.specs.List.{list_all, list_any};
 ghost use Rattle.job_lang.specs.Kinds.{has_foreign_byte, lowest_kind};
-ghost use Rattle.job_lang.specs.declared.fault_kind.FaultKind.TheVariants.{BeyondLimits, FarFromFence, UnknownTree, WrongForm};
-ghost use Rattle.job_lang.specs.Samples.{two_forms};
+ghost use Rattle.job_data.specs.declared.fault_kind.FaultKind.TheVariants.{BeyondLimits, FarFromFence, UnknownTree, WrongForm};
+ghost use Rattle.job_data.specs.Samples.{two_forms};
 ghost use Rattle.job_words.specs.Names.{is_name};
 ghost use Rattle.tree_model.specs.Commands.Command.{Print};
 

@@ -2,12 +2,12 @@
 ghost use Rattle.std.specs.Prelude.{◌≡◌};
 ghost use Rattle.std.specs.Option.{option_map};
 ghost use Rattle.job_lang.specs.Code.{form_data};
-ghost use Rattle.job_lang.specs.Data.{data_of};
+ghost use Rattle.job_data.specs.Data.{data_of};
 ghost use Rattle.job_lang.specs.Limits.{small_command};
 
-use crate::command::Command;
 use crate::form::Form;
 use crate::function_form::{MAX_SIZE, size_up_to};
+use job_data::Command;
 
 const MAX_LEVEL: u64 = 255;
 

@@ -1,10 +1,9 @@
 //! The plan of a job, and whether a job may be traced.
 ghost use Rattle.std.specs.Prelude.{◌≡◌, IfOk};
-ghost use Rattle.job_lang.specs.Versions.{plan_of, trace_fits};
+ghost use Rattle.job_data.specs.Versions.{plan_of, trace_fits};
 
-use crate::history::History;
-use crate::job::Job;
 use crate::steps::Plan;
+use job_data::{History, Job};
 use std::alloc::Global;
 use tree_key::OutOfMemory;
 

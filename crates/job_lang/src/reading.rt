@@ -9,10 +9,9 @@ ghost use Rattle.job_lang.specs.Slices.{texts};
 
 use crate::accepted::Accepted;
 use crate::fault::JobFault;
-use crate::fault_kind::FaultKind;
 use crate::form::header_of;
-use crate::job::Job;
 use crate::parse_error::ParseError;
+use job_data::{FaultKind, Job};
 use job_words::{has_allowed_bytes, is_passed_over, next_line, words_of};
 use std::alloc::Global;
 

@@ -1,7 +1,7 @@
 //! Plans, as the list of their steps.
 ghost use Rattle.std.specs.Prelude.{◌≡◌};
 
-use crate::step::Step;
+use job_data::Step;
 use std::marker::Model;
 
 /// What the commands of a job read and write, command by command.
@@ -12,7 +12,7 @@ pub struct Plan {
 
 impl Model for Plan {
     ghost use Rattle.std.specs.Prelude.{List};
-    ghost use Rattle.job_lang.specs.declared.step.Step.{Step};
+    ghost use Rattle.job_data.specs.declared.step.Step.{Step};
 
     ghost Value = { List Step };
 

@@ -8,8 +8,8 @@ use Rattle.std.proofs.Math.Seq.{drop-cons}
 use Rattle.tree_model.specs.Commands.{Command}
 use Rattle.tree_model.specs.Jobs.{command_lines, lines_from, overflow_from}
 use Rattle.tree_model.specs.Versions.{Versions, no_versions, after, versions_behind, command_overflows}
-use Rattle.job_lang.specs.Checks.{is_within_limits, are_accepted, has_room, has_trees, has_forms, is_near_fence, max_commands}
-use Rattle.job_lang.proofs.CheckLaws.{accepted-at, are_accepted-at, follows-accepted}
+use Rattle.job_data.specs.Checks.{is_within_limits, are_accepted, has_room, has_trees, has_forms, is_near_fence, max_commands}
+use Rattle.job_data.proofs.CheckLaws.{accepted-at, are_accepted-at, follows-accepted}
 
 -- the command at a place
 pub record IsAt (cs : List Command) (i : ℕ) (c : Command) : Type 0 where

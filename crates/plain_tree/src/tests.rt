@@ -2,7 +2,7 @@
 
 use crate::{SerialError, serial};
 use haar_node::Func;
-use job_lang::{Command, Job};
+use job_data::{Command, Job};
 use job_words::Name;
 use std::alloc::Global;
 use std::process::Abort;

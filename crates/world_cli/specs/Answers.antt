@@ -5,7 +5,7 @@ use Rattle.outside.specs.Causes.{Rose}
 use Rattle.tree_model.specs.Jobs.{JobData, job_text, first_overflow}
 use Rattle.job_lang.specs.declared.JobFault.{JobFault}
 use Rattle.job_lang.specs.Faults.{fault_line}
-use Rattle.job_lang.specs.Checks.{trees_behind}
+use Rattle.job_data.specs.Checks.{trees_behind}
 use Rattle.job_lang.specs.Reading.{reading_of}
 use Rattle.world_cli.specs.Requests.{request_of}
 use Rattle.world_cli.specs.declared.request.Request.{Request}

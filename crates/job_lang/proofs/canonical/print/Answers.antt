@@ -4,7 +4,7 @@ use Rattle.std.specs.List.{flat_map}
 use Rattle.std.proofs.lemmas.List.{take_all}
 use Rattle.job_lang.specs.Canonical.{command_text, header_words}
 use Rattle.job_words.specs.Lines.{line_of}
-use Rattle.job_lang.specs.Data.{data_of}
+use Rattle.job_data.specs.Data.{data_of}
 use Rattle.job_lang.specs.Reading.{reading_of}
 use Rattle.job_lang.proofs.CanonicalLaws.{reads-back, flat_map-more}
 use Rattle.job_lang.proofs.canonical.print.Goals as goal

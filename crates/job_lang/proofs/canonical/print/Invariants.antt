@@ -2,7 +2,7 @@ use Rattle.std.proofs.Common.{◌≡◌, ◌++◌, codes, map, take}
 use Rattle.std.specs.List.{flat_map}
 use Rattle.job_lang.specs.Canonical.{command_text, header_words}
 use Rattle.job_words.specs.Lines.{line_of}
-use Rattle.job_lang.specs.Data.{data_of}
+use Rattle.job_data.specs.Data.{data_of}
 use Rattle.job_lang.proofs.canonical.print.Given as goal
 
 abbrev pub invariant-loop-command : goal.invariant-loop-command

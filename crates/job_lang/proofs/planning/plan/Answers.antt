@@ -1,10 +1,10 @@
 use Rattle.std.proofs.Common.{[], ◌∷◌, ◌++◌, map, take, sym, ◌∙◌, ap, arith}
 use Rattle.std.proofs.lemmas.List.{length-map}
-use Rattle.job_lang.specs.Checks.{are_accepted}
-use Rattle.job_lang.specs.Data.{data_of}
-use Rattle.job_lang.specs.Versions.{plan_from}
-use Rattle.job_lang.proofs.CheckLaws.{accepted-there, follows-accepted, map-take-more}
-use Rattle.job_lang.proofs.HistoryLaws.{follows-length}
+use Rattle.job_data.specs.Checks.{are_accepted}
+use Rattle.job_data.specs.Data.{data_of}
+use Rattle.job_data.specs.Versions.{plan_from}
+use Rattle.job_data.proofs.CheckLaws.{accepted-there, follows-accepted, map-take-more}
+use Rattle.job_data.proofs.HistoryLaws.{follows-length}
 use Rattle.job_lang.proofs.PlanLaws.{plan_from-append}
 use Rattle.job_lang.proofs.planning.plan.Goals as goal
 

@@ -1,4 +1,4 @@
-use Rattle.job_lang.specs.Data.{data_of}
+use Rattle.job_data.specs.Data.{data_of}
 use Rattle.plain_tree.proofs.VersionLemmas.{no-overflow}
 use Rattle.plain_tree.proofs.jobs.run_command.Goals as goal
 

@@ -1,7 +1,7 @@
 use Rattle.std.proofs.Common.{◌≡◌, ◌+◌, ◌++◌, map, take, Some, Err, sym, ◌∙◌, ap, subst, arith}
 use Rattle.tree_model.specs.Jobs.{command_lines}
 use Rattle.tree_model.specs.Versions.{versions_behind}
-use Rattle.job_lang.specs.Data.{data_of}
+use Rattle.job_data.specs.Data.{data_of}
 use Rattle.plain_tree.specs.Trees.{HasVersions}
 use Rattle.plain_tree.proofs.SerialLemmas.{mapped-at, versions-next, lines-next, overflow-later, overflow-here, limits-at, few-before}
 use Rattle.plain_tree.proofs.jobs.serial.Goals as goal

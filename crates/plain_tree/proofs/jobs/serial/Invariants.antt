@@ -1,7 +1,7 @@
 use Rattle.std.proofs.Common.{◌≡◌, ◌+◌, map, take, drop}
 use Rattle.tree_model.specs.Jobs.{lines_from, overflow_from, first_overflow}
 use Rattle.tree_model.specs.Versions.{no_versions, versions_behind}
-use Rattle.job_lang.specs.Data.{data_of}
+use Rattle.job_data.specs.Data.{data_of}
 use Rattle.plain_tree.specs.Trees.{HasVersions}
 use Rattle.plain_tree.proofs.jobs.serial.Given as goal
 

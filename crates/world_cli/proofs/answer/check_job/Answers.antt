@@ -1,6 +1,6 @@
 use Rattle.std.proofs.Common.{◌≡◌, ℕ, List, [], length, ◌++◌, ap, append_assoc}
 use Rattle.std.specs.Prelude.{codes, decimal}
-use Rattle.job_lang.specs.Checks.{trees_behind}
+use Rattle.job_data.specs.Checks.{trees_behind}
 use Rattle.world_cli.proofs.answer.check_job.Goals as goal
 
 pieces : (a b c d : List ℕ) → a ++ (b ++ (c ++ d)) ≡ ((a ++ b) ++ c) ++ d

@@ -2,15 +2,16 @@ use Rattle.std.proofs.Common.{◌≡◌, true, map, sym, ◌∙◌, ap, subst}
 use Rattle.std.specs.Prelude.{Ok, Err}
 use Rattle.std.specs.Option.{option_map}
 use Rattle.tree_model.specs.Jobs.{JobData}
-use Rattle.job_lang.specs.declared.fault_kind.FaultKind.TheVariants.{BeyondLimits}
-use Rattle.job_lang.specs.Checks.{is_accepted}
+use Rattle.job_data.specs.declared.fault_kind.FaultKind.TheVariants.{BeyondLimits}
+use Rattle.job_data.specs.Checks.{is_accepted}
 use Rattle.job_lang.specs.Code.{form_data}
-use Rattle.job_lang.specs.Data.{data_of}
+use Rattle.job_data.specs.Data.{data_of}
 use Rattle.job_lang.specs.Grammar.{command_of_form}
-use Rattle.job_lang.specs.Reading.{checked_command, read, unless_fault}
-use Rattle.job_lang.proofs.CommandLemmas.{data_of-names}
+use Rattle.job_data.specs.CheckedCommands.{checked_command, unless_fault}
+use Rattle.job_lang.specs.Reading.{read}
+use Rattle.job_data.proofs.CommandLemmas.{data_of-names}
 use Rattle.job_lang.proofs.LimitLaws.{form-read}
-use Rattle.job_lang.proofs.ReadLaws.{checked-accepted}
+use Rattle.job_data.proofs.FaultLemmas.{checked-accepted}
 use Rattle.job_lang.proofs.accepted.Accepted.command_of_form.Goals as goal
 
 pub returns-in_default-clause-command : goal.returns-in_default-clause-command

@@ -1,7 +1,7 @@
 use Rattle.std.proofs.Common.{◌∷◌, [], map}
 use Rattle.std.proofs.lemmas.List.{map-append}
-use Rattle.job_lang.specs.Data.{data_of}
-use Rattle.job_lang.proofs.CheckLaws.{IsJob-push, follows-accepted}
+use Rattle.job_data.specs.Data.{data_of}
+use Rattle.job_data.proofs.CheckLaws.{IsJob-push, follows-accepted}
 use Rattle.job_lang.proofs.accepted.Accepted.push.Goals as goal
 
 pub add-requires-clause-follows : goal.add-requires-clause-follows

@@ -1,0 +1,11 @@
+use Rattle.std.proofs.Common.{refl}
+use Rattle.job_data.proofs.limit_examples.slopes_of_ramps.Goals as goal
+
+pub returns-clause-at : goal.returns-clause-at
+returns-clause-at c = refl
+
+pub returns-clause-above : goal.returns-clause-above
+returns-clause-above c = refl
+
+pub returns-clause-on_two_cells : goal.returns-clause-on_two_cells
+returns-clause-on_two_cells c = refl

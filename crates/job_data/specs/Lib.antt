@@ -1,0 +1,12 @@
+pub mod Checks
+pub mod FaultKinds
+pub mod CheckedCommands
+pub mod Data
+pub mod Reads
+pub mod SignatureData
+pub mod Found
+pub mod Versions
+pub mod Writers
+pub mod Recalls
+pub mod Meaning
+pub mod Samples

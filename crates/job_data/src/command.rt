@@ -1,0 +1,158 @@
+//! A command of a job, and what it writes, reads and needs.
+ghost use Rattle.std.specs.Prelude.{◌≡◌};
+ghost use Rattle.std.specs.Option.{option_map};
+ghost use Rattle.job_words.specs.NameBytes.{bytes_of};
+ghost use Rattle.tree_model.specs.Signatures.{signature_of, writes, written_form, written_name};
+
+use crate::reads::Reads;
+use crate::signature::{Numbers, Signature};
+use crate::tree_form::TreeForm;
+use haar_node::Func;
+use job_words::Name;
+
+/// A command of a job.
+#[derive(Clone, Copy)]
+pub enum Command {
+    /// Writes the tree of a function: split down to `level`, and where the halves of a key differ by more than
+    /// `tolerance`.
+    Project {
+        name: Name,
+        function: Func,
+        level: u8,
+        tolerance: u32,
+    },
+    /// Splits a tree down to `level`.
+    Refine {
+        name: Name,
+        level: u8,
+    },
+    /// Turns a tree into the compressed form.
+    Compress {
+        name: Name,
+    },
+    /// Turns a tree into the reconstructed form.
+    Reconstruct {
+        name: Name,
+    },
+    /// Writes the sum of two trees, each times its factor.
+    Add {
+        name: Name,
+        left_factor: i64,
+        left: Name,
+        right_factor: i64,
+        right: Name,
+    },
+    /// Writes the product of two trees.
+    Mul {
+        name: Name,
+        left: Name,
+        right: Name,
+    },
+    /// Prints the inner product of two trees.
+    Inner {
+        left: Name,
+        right: Name,
+    },
+    /// Prints a tree.
+    Print {
+        name: Name,
+    },
+    /// Waits until all commands before it are done.
+    Fence,
+}
+
+impl Command {
+    ghost use Rattle.job_data.specs.Data.{data_of, form_of};
+    ghost use Rattle.job_data.specs.SignatureData.{signature_data};
+
+    /// What the command writes, reads and does besides.
+    pub fn signature(&self) -> Signature
+        ensures { signature_data result ≡ signature_of (data_of self.now) }
+    {
+        let (reconstructed, compressed) = (TreeForm::Reconstructed, TreeForm::Compressed);
+        match *self {
+            Command::Project {
+                name,
+                function,
+                level,
+                tolerance,
+            } => {
+                let numbers = Numbers::Projection {
+                    function,
+                    level,
+                    tolerance,
+                };
+                Signature::writing(name, reconstructed, Reads::Nothing, None, numbers)
+            }
+            Command::Refine { name, level } => {
+                let numbers = Numbers::Level(level);
+                let needs = Some(reconstructed);
+                Signature::writing(name, reconstructed, Reads::One(name), needs, numbers)
+            }
+            Command::Compress { name } => {
+                let needs = Some(reconstructed);
+                Signature::writing(name, compressed, Reads::One(name), needs, Numbers::Nothing)
+            }
+            Command::Reconstruct { name } => {
+                let needs = Some(compressed);
+                Signature::writing(
+                    name,
+                    reconstructed,
+                    Reads::One(name),
+                    needs,
+                    Numbers::Nothing,
+                )
+            }
+            Command::Add {
+                name,
+                left_factor,
+                left,
+                right_factor,
+                right,
+            } => {
+                let (reads, needs) = (Reads::Two(left, right), Some(compressed));
+                let numbers = Numbers::Factors(left_factor, right_factor);
+                Signature::writing(name, compressed, reads, needs, numbers)
+            }
+            Command::Mul { name, left, right } => {
+                let (reads, needs) = (Reads::Two(left, right), Some(reconstructed));
+                Signature::writing(name, reconstructed, reads, needs, Numbers::Nothing)
+            }
+            Command::Inner { left, right } => {
+                Signature::reading(Reads::Two(left, right), Some(compressed), false)
+            }
+            Command::Print { name } => Signature::reading(Reads::One(name), None, true),
+            Command::Fence => Signature::fence(),
+        }
+    }
+
+    /// The name of the tree that the command writes. None where it writes none.
+    pub fn written_name(&self) -> Option<Name>
+        ensures { option_map bytes_of result ≡ written_name (data_of self.now) }
+    {
+        match self.signature().writes {
+            Some(target) => Some(target.name),
+            None => None,
+        }
+    }
+
+    /// Whether the command writes the tree of this name.
+    pub fn writes(&self, name: &[u8]) -> bool
+        ensures { result ≡ writes name.now (data_of self.now) }
+    {
+        match self.written_name() {
+            Some(written) => name == written.bytes(),
+            None => false,
+        }
+    }
+
+    /// The form in which the command writes its tree. None where it writes none.
+    pub fn written_form(&self) -> Option<TreeForm>
+        ensures { option_map form_of result ≡ written_form (data_of self.now) }
+    {
+        match self.signature().writes {
+            Some(target) => Some(target.form),
+            None => None,
+        }
+    }
+}

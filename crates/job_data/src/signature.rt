@@ -1,0 +1,135 @@
+//! What a command writes, reads and does besides. The checks of a job and its plan follow from it.
+ghost use Rattle.std.specs.Prelude.{◌≡◌};
+ghost use Rattle.std.specs.Option.{option_map};
+ghost use Rattle.job_words.specs.NameBytes.{bytes_of};
+ghost use Rattle.job_data.specs.Data.{form_of};
+ghost use Rattle.job_data.specs.Reads.{names_of};
+ghost use Rattle.tree_model.specs.Signatures.{are_within, fencing, is_factor, reading, writing};
+
+use crate::reads::Reads;
+use crate::tree_form::TreeForm;
+use haar_node::Func;
+use job_words::Name;
+
+/// The name of a tree, and the form that it is written in.
+#[derive(Clone, Copy)]
+pub struct Target {
+    pub name: Name,
+    pub form: TreeForm,
+}
+
+/// The numbers of a command that have limits.
+#[derive(Clone, Copy)]
+pub enum Numbers {
+    Nothing,
+    /// Of a projection.
+    Projection {
+        function: Func,
+        level: u8,
+        tolerance: u32,
+    },
+    /// A level down to which a tree is split.
+    Level(u8),
+    /// The factors of a sum.
+    Factors(i64, i64),
+}
+
+/// What a command writes, reads and does besides.
+#[derive(Clone, Copy)]
+pub struct Signature {
+    /// The tree that it writes. None where it writes none.
+    pub writes: Option<Target>,
+    /// The names of the trees that it reads.
+    pub reads: Reads,
+    /// The form that it needs these trees in. None where it reads none, or takes either form.
+    pub needs: Option<TreeForm>,
+    pub numbers: Numbers,
+    /// Whether it is a `print`.
+    pub prints: bool,
+    /// Whether it is a `fence`.
+    pub fences: bool,
+}
+
+const MAX_TOLERANCE: u32 = 1 << 25;
+
+const MAX_FACTOR: u64 = 1 << 20;
+
+// Whether a number may be a factor of a sum.
+fn is_factor(number: i64) -> bool
+    ensures { result ≡ is_factor number }
+{
+    number.unsigned_abs() <= MAX_FACTOR
+}
+
+impl Numbers {
+    ghost use Rattle.job_data.specs.SignatureData.{numbers_of};
+
+    /// Whether the numbers are within their limits at a depth.
+    pub fn are_within(&self, depth: u8) -> bool
+        ensures { result ≡ are_within depth (numbers_of self.now) }
+    {
+        match *self {
+            Numbers::Nothing => true,
+            Numbers::Projection {
+                function,
+                level,
+                tolerance,
+            } => function.fits(depth) && level <= depth && tolerance <= MAX_TOLERANCE,
+            Numbers::Level(level) => level <= depth,
+            Numbers::Factors(left, right) => is_factor(left) && is_factor(right),
+        }
+    }
+}
+
+impl Signature {
+    ghost use Rattle.job_data.specs.SignatureData.{numbers_of, signature_data};
+
+    /// Of a command that writes a tree.
+    pub fn writing(
+        name: Name,
+        form: TreeForm,
+        reads: Reads,
+        needs: Option<TreeForm>,
+        numbers: Numbers,
+    ) -> Signature
+        ensures { signature_data result
+            ≡ writing (bytes_of name) (form_of form) (names_of reads) (option_map form_of needs) (numbers_of numbers) }
+    {
+        Signature {
+            writes: Some(Target { name, form }),
+            reads,
+            needs,
+            numbers,
+            prints: false,
+            fences: false,
+        }
+    }
+
+    /// Of a command that only reads.
+    pub fn reading(reads: Reads, needs: Option<TreeForm>, prints: bool) -> Signature
+        ensures { signature_data result ≡ reading (names_of reads) (option_map form_of needs) prints }
+    {
+        Signature {
+            writes: None,
+            reads,
+            needs,
+            numbers: Numbers::Nothing,
+            prints,
+            fences: false,
+        }
+    }
+
+    /// Of a fence.
+    pub fn fence() -> Signature
+        ensures { signature_data result ≡ fencing }
+    {
+        Signature {
+            writes: None,
+            reads: Reads::Nothing,
+            needs: None,
+            numbers: Numbers::Nothing,
+            prints: false,
+            fences: true,
+        }
+    }
+}

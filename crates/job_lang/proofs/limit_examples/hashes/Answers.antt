@@ -1,8 +1,0 @@
-use Rattle.std.proofs.Common.{refl}
-use Rattle.job_lang.proofs.limit_examples.hashes.Goals as goal
-
-pub returns-clause-at : goal.returns-clause-at
-returns-clause-at c = refl
-
-pub returns-clause-above : goal.returns-clause-above
-returns-clause-above c = refl

@@ -1,7 +1,0 @@
-use Rattle.std.proofs.Common.{◌≡◌, drop, map}
-use Rattle.job_lang.specs.Data.{data_of}
-use Rattle.job_lang.specs.Writers.{version_at}
-use Rattle.job_lang.proofs.writers.version_at.Given as goal
-
-abbrev pub invariant-loop-place : goal.invariant-loop-place
-invariant-loop-place l = version_at (map data_of l.commands) (drop l.place-index l.places) l.name ≡ version_at (map data_of l.commands) l.places l.name
