@@ -7,9 +7,9 @@ use Rattle.std.proofs.lemmas.Nat.{pow_pos}
 use Rattle.std.proofs.Math.Nat.{mul-div_cancel_left, zero-div}
 use Rattle.tree_key.specs.Keys.{width}
 use Rattle.tree_model.specs.Functions.{max_value}
-use Rattle.tree_model.proofs.Integers.{product-within}
-use Rattle.tree_model.proofs.BoxSums.{leaves_have_one_value}
-use Rattle.tree_model.proofs.Bounds.{no_rest}
+use Rattle.tree_model.proofs.IntegerLemmas.{product_within}
+use Rattle.tree_model.proofs.BoxSumLemmas.{leaves_have_one_value}
+use Rattle.tree_model.proofs.BoundLemmas.{no_rest}
 use Rattle.haar_node.specs.Combinations.{LeavesGiveTheirValues}
 
 -- a negative number divided
@@ -31,7 +31,7 @@ leaves_give_their_values t leaf cell value tree values leaf_is inside at =
     let small : unsigned_abs value ≤ max_value = rw (get_or_from_slice_get t.cells cell value (pos 0) at) at first in (
       record {
         exact = rw sum (no_rest count value);
-        within = rw sum (product-within (pos count) value count max_value (omega arith) small);
+        within = rw sum (product_within (pos count) value count max_value (omega arith) small);
       },
       rw sum (quotient_of_multiple count value (pow_pos (t.depth - leaf.level))),
     )

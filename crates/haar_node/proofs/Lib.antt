@@ -1,3 +1,3 @@
-pub mod Stored
+pub mod StoredNumberLemmas
 pub mod LeafLemmas
-pub mod WeightedSums
+pub mod WeightedSumLemmas

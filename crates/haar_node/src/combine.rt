@@ -1,3 +1,4 @@
+//! Sums and differences of neighbours, and what combinations of trees have at a key.
 ghost use Rattle.std.specs.Prelude.{◌≡◌, ◌+◌, ◌*◌, ◌^◌, ◌<◌, ◌≤◌, ◌↔◌, IfOk, IsErr, Some, codes, pos, ◌+ℤ◌, ◌-ℤ◌, ◌*ℤ◌, int_rem};
 ghost use Rattle.std.specs.Int.RustNames.{unsigned_abs};
 ghost use Rattle.tree_model.specs.Functions.{max_depth, max_value};

@@ -1,3 +1,4 @@
+//! The functions that `project` splits into trees, and their values at cells.
 ghost use Rattle.std.specs.Prelude.{◌≡◌, ℕ, ◌^◌, ◌<◌, ◌≤◌, true, pos, ◌+ℤ◌, ◌*ℤ◌};
 ghost use Rattle.std.specs.Int.RustNames.{unsigned_abs};
 ghost use Rattle.tree_model.specs.Functions.{value_at, fits, is_value, max_value, max_difference};
@@ -13,7 +14,7 @@ pub enum Func {
     Ramp(i64, i64),
     /// A cell, the value at the cells before it, and the value from it on.
     Step(u32, i64, i64),
-    /// The first cell of a range, the cell behind the range, and the value there. At all other cells the value is 0.
+    /// The first cell of a range, the cell after the range, and the value there. At all other cells the value is 0.
     Box(u32, u32, i64),
     /// A seed and a modulus: the numbers of SplitMix64 that begin with the seed, modulo the modulus.
     Hash(u32, u32),
@@ -49,7 +50,7 @@ impl Func {
 
     /// Whether the function may be named at this depth: the depth is at most 16, its values there are at most two to
     /// the 24 in absolute value, a slope is at most two to the 25, a step's cell and the ends of a range lie among the
-    /// cells or right behind them, the range doesn't end before it starts, and a modulus is from 1 to two to the 24.
+    /// cells or right after them, the range doesn't end before it starts, and a modulus is from 1 to two to the 24.
     pub fn fits(&self, depth: u8) -> bool
         ensures { result ≡ fits depth (function_of self.now) }
     {
@@ -140,7 +141,7 @@ mod tests {
             (Func::Ramp(0, 2 * LIMIT + 1), 0, false),
             (Func::Ramp(0, -2 * LIMIT), 0, true),
             (Func::Ramp(0, -2 * LIMIT - 1), 0, false),
-            // A step may stand before the first cell, or behind the last.
+            // A step may stand before the first cell, or after the last.
             (Func::Step(0, 1, 2), 0, true),
             (Func::Step(1, LIMIT, -LIMIT), 0, true),
             (Func::Step(2, 1, 2), 0, false),

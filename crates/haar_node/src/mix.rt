@@ -1,3 +1,4 @@
+//! The numbers of the function `hash`: SplitMix64.
 ghost use Rattle.std.specs.Prelude.{◌≡◌};
 ghost use Rattle.tree_model.specs.Mix.{mix};
 

@@ -1,3 +1,4 @@
+//! The numbers and nodes that are stored at the keys of a tree.
 ghost use Rattle.std.specs.Prelude.{◌≡◌, ◌≤◌};
 ghost use Rattle.std.specs.Int.RustNames.{unsigned_abs};
 ghost use Rattle.tree_model.specs.Nodes.{max_number};

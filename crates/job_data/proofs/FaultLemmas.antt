@@ -20,8 +20,8 @@ regrouped true a b t f n names all = all
 regrouped false a b t f n names all = cc
 
 -- a command without a fault is accepted
-pub checked-accepted : (depth : ℕ) (before : List Command) (c : Command) → has_names c ≡ true → Ok c ≡ checked_command depth before c → is_accepted depth before c ≡ true
-checked-accepted depth before c names is =
+pub checked_accepted : (depth : ℕ) (before : List Command) (c : Command) → has_names c ≡ true → Ok c ≡ checked_command depth before c → is_accepted depth before c ≡ true
+checked_accepted depth before c names is =
     let all = all_hold c (has_numbers depth c) (has_room before c) (has_trees before c) (has_forms before c) (is_near_fence before c) is in
     regrouped (has_names c) (has_numbers depth c) (has_room before c) (has_trees before c) (has_forms before c) (is_near_fence before c) names all
 
@@ -39,6 +39,6 @@ not_within false a rest names is = cc
 
 -- a command is accepted exactly where it has no fault
 pub faultless : (depth : ℕ) (before : List Command) (c : Command) (fault : Option FaultKind) → has_names c ≡ true → unless_fault fault c ≡ checked_command depth before c → not (is_some fault) ≡ is_accepted depth before c
-faultless depth before c None names is = sym (checked-accepted depth before c names is)
+faultless depth before c None names is = sym (checked_accepted depth before c names is)
 faultless depth before c (Some kind) names is =
     sym (not_within (has_names c) (has_numbers depth c) (may_follow before c) names (some_fault kind c (has_numbers depth c) (has_room before c) (has_trees before c) (has_forms before c) (is_near_fence before c) is))

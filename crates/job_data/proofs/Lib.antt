@@ -1,7 +1,7 @@
-pub mod CheckLaws
-pub mod WriterLaws
-pub mod HistoryLaws
-pub mod MeaningLaws
+pub mod CheckLemmas
+pub mod WriterLemmas
+pub mod HistoryLemmas
+pub mod MeaningLemmas
 pub mod CommandLemmas
 pub mod FoundLemmas
 pub mod FaultLemmas

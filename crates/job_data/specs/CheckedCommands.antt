@@ -1,4 +1,4 @@
--- A command behind those before it, or the lowest kind of fault that it has there.
+-- A command after those before it, or the lowest kind of fault that it has there.
 use Rattle.std.specs.Prelude.{ℕ, ◌&&◌, Bool, List, Option, Some, None, Result, Ok, Err, if◌then◌else◌}
 use Rattle.tree_model.specs.Commands.{Command}
 use Rattle.job_data.specs.declared.fault_kind.FaultKind.{FaultKind}
@@ -14,7 +14,7 @@ abbrev pub unless_fault : {A : Type 0} → Option FaultKind → A → Result A F
 unless_fault None x = Ok x
 unless_fault (Some kind) x = Err kind
 
--- a command behind those before it, or the lowest kind of fault that it has
+-- a command after those before it, or the lowest kind of fault that it has
 abbrev pub checked_command : ℕ → List Command → Command → Result Command FaultKind
 checked_command depth before c =
     checked BeyondLimits (has_numbers depth c && has_room before c)

@@ -1,4 +1,4 @@
--- What a command of a job has to keep, alone and behind the commands before it.
+-- What a command of a job has to keep, alone and after the commands before it.
 use Rattle.std.specs.Prelude.{ℕ, ◌+◌, Bool, true, false, not, ◌&&◌, ◌||◌, nat_le, nat_lt, ◌≡◌, List, [], ◌∷◌, ◌++◌, length, count_by, Option, Some, None, if◌then◌else◌}
 use Rattle.std.specs.List.{list_all, list_any, fold}
 use Rattle.std.specs.Option.{option_map_or}
@@ -69,7 +69,7 @@ brings before s = option_map_or (λ target. not (is_written before target.name))
 abbrev pub brings_tree : List Command → Command → Bool
 brings_tree before c = brings before (signature_of c)
 
--- how many trees these commands bring, behind those before them
+-- how many trees these commands bring, after those before them
 abbrev pub trees_behind : List Command → List Command → ℕ
 trees_behind before [] = 0
 trees_behind before (c ∷ cs) = (if brings_tree before c then 1 else 0) + trees_behind (before ++ c ∷ []) cs
@@ -104,14 +104,14 @@ has_forms before c = list_all (λ name. suits (needed_form c) (form_behind befor
 abbrev pub is_near_fence : List Command → Command → Bool
 is_near_fence before c = is_fence c || nat_lt (since_fence before) max_commands_before_fence
 
--- whether a command may stand behind the commands before it
+-- whether a command may stand after the commands before it
 abbrev pub may_follow : List Command → Command → Bool
 may_follow before c = has_room before c && (has_trees before c && (has_forms before c && is_near_fence before c))
 
 abbrev pub is_accepted : ℕ → List Command → Command → Bool
 is_accepted depth before c = is_within_limits depth c && may_follow before c
 
--- whether each of these commands is accepted behind those before it
+-- whether each of these commands is accepted after those before it
 abbrev pub are_accepted : ℕ → List Command → List Command → Bool
 are_accepted depth before [] = true
 are_accepted depth before (c ∷ cs) = is_accepted depth before c && are_accepted depth (before ++ c ∷ []) cs

@@ -15,7 +15,7 @@ abbrev pub version_from : ℕ → ℕ → List Command → List ℕ → ℕ
 version_from number last [] name = last
 version_from number last (c ∷ cs) name = version_from (number + 1) (if writes name c then number else last) cs name
 
--- the version that a name has behind these commands, or 0
+-- the version that a name has after these commands, or 0
 abbrev pub version_behind : List Command → List ℕ → ℕ
 version_behind commands name = version_from 1 0 commands name
 
@@ -25,7 +25,7 @@ sources_of before [] = Nothing
 sources_of before (name ∷ []) = One (version_behind before name)
 sources_of before (left ∷ right ∷ more) = Two (version_behind before left) (version_behind before right)
 
--- what a command reads and writes behind those before it, and the fence that ends it: the next, or itself
+-- what a command reads and writes after those before it, and the fence that ends it: the next, or itself
 abbrev pub step_for : List Command → Signature → Step
 step_for before s = record {
   reads = sources_of before s.reads;

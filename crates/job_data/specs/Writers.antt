@@ -7,7 +7,7 @@ use Rattle.tree_model.specs.Nodes.{Form}
 use Rattle.job_data.specs.Checks.{form_behind, trees_behind}
 use Rattle.job_data.specs.Versions.{version_behind}
 
--- the command at a place; behind the last there is a fence, which writes nothing
+-- the command at a place; after the last there is a fence, which writes nothing
 abbrev pub command_at : List Command → ℕ → Command
 command_at commands place = get_or commands place Fence
 
@@ -23,7 +23,7 @@ form_at commands places name = told_at (λ place command. written_form command) 
 abbrev pub version_at : List Command → List ℕ → List ℕ → ℕ
 version_at commands places name = told_at (λ place command. place + 1) 0 commands places name
 
--- the places with this one in place of the first that writes a name, or behind all where none does
+-- the places with this one in place of the first that writes a name, or after all where none does
 abbrev pub with_writer : List Command → List ℕ → List ℕ → ℕ → List ℕ
 with_writer commands [] name last = last ∷ []
 with_writer commands (place ∷ places) name last = if writes name (command_at commands place) then last ∷ places else place ∷ with_writer commands places name last

@@ -164,7 +164,7 @@ impl History {
             && (!signature.prints || self.prints < MAX_PRINTS)
     }
 
-    /// The lowest kind of fault that a command has behind the commands. None where it has none.
+    /// The lowest kind of fault that a command has after the commands. None where it has none.
     pub fn fault_of(&self, depth: u8, before: &[Command], command: &Command) -> Option<FaultKind>
         requires { Recalls (map data_of before.now) self.now }
         ensures { unless_fault result (data_of command.now)
@@ -180,7 +180,7 @@ impl History {
         lowest_fault(is_within, has_room, are_there, suit, is_near)
     }
 
-    /// Whether a command is within its limits at a depth, and may stand behind the commands.
+    /// Whether a command is within its limits at a depth, and may stand after the commands.
     pub fn is_accepted(&self, depth: u8, before: &[Command], command: &Command) -> bool
         requires { Recalls (map data_of before.now) self.now }
         ensures { result ≡ is_accepted depth (map data_of before.now) (data_of command.now) }
@@ -188,7 +188,7 @@ impl History {
         self.fault_of(depth, before, command).is_none()
     }
 
-    // The version that a name has behind the commands, or 0.
+    // The version that a name has after the commands, or 0.
     fn version_behind(&self, before: &[Command], name: &[u8]) -> u32
         requires recalls { Recalls (map data_of before.now) self.now }
         requires few { length before.now < 512 }
@@ -197,7 +197,7 @@ impl History {
         version_at(before, &self.places[..self.trees], name)
     }
 
-    // What a command with this signature reads and writes behind the commands, which are fewer than 512.
+    // What a command with this signature reads and writes after the commands, which are fewer than 512.
     fn step_for(&self, before: &[Command], signature: &Signature) -> Step
         requires recalls { Recalls (map data_of before.now) self.now }
         requires few { length before.now < 512 }
@@ -219,7 +219,7 @@ impl History {
         }
     }
 
-    /// What a command reads and writes behind the commands, which are fewer than 512.
+    /// What a command reads and writes after the commands, which are fewer than 512.
     pub fn step_of(&self, before: &[Command], command: &Command) -> Step
         requires recalls { Recalls (map data_of before.now) self.now }
         requires few { length before.now < 512 }
@@ -229,7 +229,7 @@ impl History {
         self.step_for(before, &signature)
     }
 
-    // Takes note of the writer of a tree, which is to stand behind the commands.
+    // Takes note of the writer of a tree, which is to stand after the commands.
     fn add_writer(&mut self, before: &[Command], command: &Command)
         requires recalls { Recalls (map data_of before.now) self.old }
         requires room { has_room (map data_of before.now) (data_of command.now) ≡ true }
@@ -254,7 +254,7 @@ impl History {
         }
     }
 
-    /// The history with one command more, which may stand behind the others.
+    /// The history with one command more, which may stand after the others.
     pub fn add(&mut self, before: &[Command], command: &Command)
         requires recalls { Recalls (map data_of before.now) self.old }
         requires follows { may_follow (map data_of before.now) (data_of command.now) ≡ true }

@@ -7,7 +7,7 @@ use crate::command::Command;
 use crate::history::History;
 use std::marker::Model;
 
-/// A job: its depth, from 0 to 16, and its commands, each accepted behind those before it.
+/// A job: its depth, from 0 to 16, and its commands, each accepted after those before it.
 #[derive(Drop)]
 pub struct Job {
     depth: u8,
@@ -30,7 +30,7 @@ impl Model for Job {
 /// The largest depth.
 pub const MAX_DEPTH: u8 = 16;
 
-// Whether each of the commands is accepted behind those before it.
+// Whether each of the commands is accepted after those before it.
 fn are_accepted(depth: u8, commands: &[Command]) -> bool
     ensures { result ≡ are_accepted depth [] (map data_of commands.now) }
 {
@@ -46,7 +46,7 @@ fn are_accepted(depth: u8, commands: &[Command]) -> bool
     true
 }
 
-// How many trees these commands bring, each of which is accepted behind those before it.
+// How many trees these commands bring, each of which is accepted after those before it.
 fn trees_of(commands: &[Command]) -> u32
     requires { (depth : ℕ) × (are_accepted depth [] (map data_of commands.now) ≡ true) }
     ensures { result ≡ trees_behind [] (map data_of commands.now) }
@@ -67,7 +67,7 @@ impl Job {
         Job { depth, commands }
     }
 
-    /// A job of its parts. None exactly where they are no job: the depth is above 16, or a command isn't accepted behind
+    /// A job of its parts. None exactly where they are no job: the depth is above 16, or a command isn't accepted after
     /// those before it. It takes no memory.
     pub fn of_commands(depth: u8, commands: Vec<Command>) -> Option<Job>
         ensures some { IsSome result ↔ IsJob (record { depth = depth; commands = map data_of commands.items }) }

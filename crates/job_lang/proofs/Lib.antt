@@ -1,6 +1,6 @@
-pub mod LimitLaws
-pub mod ReadLaws
-pub mod CanonicalLaws
-pub mod PlanLaws
-pub mod KindLaws
-pub mod FirstFaultLaws
+pub mod LimitLemmas
+pub mod ReadLemmas
+pub mod CanonicalLemmas
+pub mod PlanLemmas
+pub mod KindLemmas
+pub mod FirstFaultLemmas

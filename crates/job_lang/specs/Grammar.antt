@@ -1,5 +1,5 @@
 -- The forms of a job's lines, as readers of their words: each takes words off the front, and answers what they say and
--- the words behind them, or nothing where they aren't in its form.
+-- the words after them, or nothing where they aren't in its form.
 use Rattle.std.specs.Prelude.{ℕ, List, [], ◌∷◌, Option, Some, None, option_and_then, ℤ, pos, negsuc, codes, if◌then◌else◌, nat_le}
 use Rattle.std.specs.Option.{option_map}
 use Rattle.std.specs.Str.{bytes_eq}
@@ -197,7 +197,7 @@ fence_of words = do
   end ← no_more words
   Some FenceForm
 
--- the form of the words behind a command's first
+-- the form of the words after a command's first
 abbrev pub form_of : Verb → Words → Option Form
 form_of Project words = project_of words
 form_of Refine words = refine_of words

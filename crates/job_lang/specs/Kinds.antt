@@ -1,4 +1,4 @@
--- The kinds of fault, each by itself: whether a line that isn't passed over has it behind the commands before it, whatever
+-- The kinds of fault, each by itself: whether a line that isn't passed over has it after the commands before it, whatever
 -- other kinds it has.
 use Rattle.std.specs.Prelude.{◌≡◌, ℕ, Bool, false, not, ◌&&◌, List, [], ◌∷◌, Option, Some, None, is_none, Result, Ok, Err, if◌then◌else◌}
 use Rattle.std.specs.List.{list_all}

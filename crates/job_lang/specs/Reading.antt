@@ -32,7 +32,7 @@ command_of_line depth before line = checked ForeignByte (list_all is_allowed lin
 abbrev pub depth_of_line : List ℕ → Result ℕ FaultKind
 depth_of_line line = checked ForeignByte (list_all is_allowed line) (read NoHeader (header_of (words line)) (λ depth. Ok depth))
 
--- the depth that the header tells, the lines behind it, and the number of the first of them
+-- the depth that the header tells, the lines after it, and the number of the first of them
 pub record Header : Type 0 where
   pub depth : ℕ
   pub number : ℕ
@@ -49,7 +49,7 @@ header_from number (line ∷ rest) =
     if is_passed_over (words line) then header_from (number + 1) rest
     else header_behind number rest (depth_of_line line)
 
--- the commands of all lines from `number` on, behind those before them
+-- the commands of all lines from `number` on, after those before them
 abbrev pub commands_from : ℕ → List Command → ℕ → List (List ℕ) → Result (List Command) JobFault
 commands_from depth before number [] = Ok before
 commands_from depth before number (line ∷ rest) =

@@ -20,7 +20,7 @@ use job_words::{has_allowed_bytes, is_passed_over, words_of};
 use std::alloc::{AllocError, Global};
 use std::marker::Model;
 
-/// The commands of a job's first lines, each accepted behind those before it.
+/// The commands of a job's first lines, each accepted after those before it.
 #[derive(Drop)]
 pub struct Accepted {
     depth: u8,
@@ -56,7 +56,7 @@ impl Accepted {
         }
     }
 
-    // Adds a command that is accepted behind the others.
+    // Adds a command that is accepted after the others.
     fn push(&mut self, command: Command) -> Result<(), AllocError>
         requires { is_accepted self.old.depth self.old.commands (data_of command) ≡ true }
         ensures ok { OnOk result
@@ -70,7 +70,7 @@ impl Accepted {
         Ok(())
     }
 
-    // The command of a form, or the lowest kind of fault that it has behind the others.
+    // The command of a form, or the lowest kind of fault that it has after the others.
     fn command_of_form(&self, form: &Form) -> Result<Command, FaultKind>
         ensures command { command_read result
             ≡ read BeyondLimits (command_of_form (form_data form.now)) (checked_command self.now.depth self.now.commands) }
@@ -87,7 +87,7 @@ impl Accepted {
         }
     }
 
-    // The command that a line's words say, or the lowest kind of fault that it has behind the others.
+    // The command that a line's words say, or the lowest kind of fault that it has after the others.
     fn command_of(&self, words: &[&[u8]]) -> Result<Command, FaultKind>
         ensures command { command_read result
             ≡ command_of_words self.now.depth self.now.commands (texts words.now) }
@@ -105,7 +105,7 @@ impl Accepted {
         self.command_of_form(&form)
     }
 
-    // The command that a line says that isn't passed over, or the lowest kind of fault that it has behind the others.
+    // The command that a line says that isn't passed over, or the lowest kind of fault that it has after the others.
     fn command_of_line(&self, line: &[u8], words: &[&[u8]]) -> Result<Command, FaultKind>
         requires { texts words.now ≡ line_words line.now }
         ensures command { command_read result

@@ -38,7 +38,7 @@ fn add_size(text: &mut Text, size: u32) -> Result<(), OutOfMemory>
     add_word(text, buffer.format(size).as_bytes())
 }
 
-// Adds the words of a function, each behind a space.
+// Adds the words of a function, each after a space.
 fn add_function(text: &mut Text, function: &Func) -> Result<(), OutOfMemory>
     ensures { OnOk result (text.new ≡ text.old ++ spaced (function_words (function_of function.now))) }
 {
@@ -72,7 +72,7 @@ fn add_function(text: &mut Text, function: &Func) -> Result<(), OutOfMemory>
     }
 }
 
-// Adds `level N tol T`, each word behind a space.
+// Adds `level N tol T`, each word after a space.
 fn add_limits(text: &mut Text, level: u8, tolerance: u32) -> Result<(), OutOfMemory>
     ensures { OnOk result (text.new ≡ text.old ++ spaced (codes "level" ∷ decimal level ∷ codes "tol" ∷ decimal tolerance ∷ [])) }
 {
@@ -82,7 +82,7 @@ fn add_limits(text: &mut Text, level: u8, tolerance: u32) -> Result<(), OutOfMem
     add_size(text, tolerance)
 }
 
-// Adds `A NAME`, each word behind a space.
+// Adds `A NAME`, each word after a space.
 fn add_term(text: &mut Text, factor: i64, name: &[u8]) -> Result<(), OutOfMemory>
     ensures { OnOk result (text.new ≡ text.old ++ spaced (signed_decimal factor ∷ name.now ∷ [])) }
 {
@@ -90,7 +90,7 @@ fn add_term(text: &mut Text, factor: i64, name: &[u8]) -> Result<(), OutOfMemory
     add_word(text, name)
 }
 
-// Adds a verb, and a name behind a space.
+// Adds a verb, and a name after a space.
 fn add_named(text: &mut Text, verb: &[u8], name: &[u8]) -> Result<(), OutOfMemory>
     ensures { OnOk result (text.new ≡ text.old ++ line_of (verb.now ∷ name.now ∷ [])) }
 {

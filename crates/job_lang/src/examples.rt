@@ -74,7 +74,7 @@ pub fn limits()
         ≡ Ok (record { depth = 1; commands = Project (codes "f") (record { function = Const (pos 0); level = 0; tolerance = 0 }) ∷ [] }) }
 {}
 
-/// A tree may be written again, and is printed only behind a command that writes it.
+/// A tree may be written again, and is printed only after a command that writes it.
 pub fn order_of_commands()
     ensures written_twice { reading_of (codes "job 1 depth 0\nproject f const 1 level 0 tol 0\nproject f const 2 level 0 tol 0\nprint f")
         ≡ Ok (record {

@@ -1,4 +1,4 @@
-//! Readers of the words of a line: each takes words off the front, and answers what they say and the words behind them.
+//! Readers of the words of a line: each takes words off the front, and answers what they say and the words after them.
 ghost use Rattle.std.specs.Prelude.{◌≡◌};
 ghost use Rattle.job_lang.specs.Grammar.{box_at, const_at, function_at, hash_at, keyword, name_at, no_more, number_at, one_name, ramp_at, size_at, step_at, two_names};
 ghost use Rattle.job_lang.specs.Slices.{function_read, name_only, name_read, names_only, number_read, rest_read, texts};
@@ -6,7 +6,7 @@ ghost use Rattle.job_lang.specs.Slices.{function_read, name_only, name_read, nam
 use crate::function_form::FunctionForm;
 use job_words::{Name, number_of};
 
-/// The words behind this very word.
+/// The words after this very word.
 pub fn keyword<'a, 'b>(text: &[u8], words: &'b [&'a [u8]]) -> Option<&'b [&'a [u8]]>
     ensures { rest_read result ≡ keyword text.now (texts words.now) }
 {
@@ -21,7 +21,7 @@ pub fn no_more(words: &[&[u8]]) -> Option<()>
     if words.is_empty() { Some(()) } else { None }
 }
 
-/// A name, and the words behind it.
+/// A name, and the words after it.
 pub fn name_at<'a, 'b>(words: &'b [&'a [u8]]) -> Option<(Name, &'b [&'a [u8]])>
     ensures { name_read result ≡ name_at (texts words.now) }
 {
@@ -30,7 +30,7 @@ pub fn name_at<'a, 'b>(words: &'b [&'a [u8]]) -> Option<(Name, &'b [&'a [u8]])>
     Some((name, rest))
 }
 
-/// A name, behind which no word is left.
+/// A name, after which no word is left.
 pub fn one_name(words: &[&[u8]]) -> Option<Name>
     ensures { name_only result ≡ one_name (texts words.now) }
 {
@@ -39,7 +39,7 @@ pub fn one_name(words: &[&[u8]]) -> Option<Name>
     Some(name)
 }
 
-/// Two names, behind which no word is left.
+/// Two names, after which no word is left.
 pub fn two_names(words: &[&[u8]]) -> Option<(Name, Name)>
     ensures { names_only result ≡ two_names (texts words.now) }
 {
@@ -49,7 +49,7 @@ pub fn two_names(words: &[&[u8]]) -> Option<(Name, Name)>
     Some((left, right))
 }
 
-/// A number, and the words behind it.
+/// A number, and the words after it.
 pub fn number_at<'a, 'b>(words: &'b [&'a [u8]]) -> Option<(i64, &'b [&'a [u8]])>
     ensures { number_read result ≡ number_at (texts words.now) }
 {
@@ -58,7 +58,7 @@ pub fn number_at<'a, 'b>(words: &'b [&'a [u8]]) -> Option<(i64, &'b [&'a [u8]])>
     Some((number, rest))
 }
 
-/// A number that isn't negative, and the words behind it.
+/// A number that isn't negative, and the words after it.
 pub fn size_at<'a, 'b>(words: &'b [&'a [u8]]) -> Option<(u64, &'b [&'a [u8]])>
     ensures { number_read result ≡ size_at (texts words.now) }
 {
@@ -69,7 +69,7 @@ pub fn size_at<'a, 'b>(words: &'b [&'a [u8]]) -> Option<(u64, &'b [&'a [u8]])>
     Some((number as u64, rest))
 }
 
-/// The function `const C`, and the words behind it.
+/// The function `const C`, and the words after it.
 pub fn const_at<'a, 'b>(words: &'b [&'a [u8]]) -> Option<(FunctionForm, &'b [&'a [u8]])>
     ensures { function_read result ≡ const_at (texts words.now) }
 {
@@ -78,7 +78,7 @@ pub fn const_at<'a, 'b>(words: &'b [&'a [u8]]) -> Option<(FunctionForm, &'b [&'a
     Some((FunctionForm::Const(constant), words))
 }
 
-/// The function `ramp A B`, and the words behind it.
+/// The function `ramp A B`, and the words after it.
 pub fn ramp_at<'a, 'b>(words: &'b [&'a [u8]]) -> Option<(FunctionForm, &'b [&'a [u8]])>
     ensures { function_read result ≡ ramp_at (texts words.now) }
 {
@@ -88,7 +88,7 @@ pub fn ramp_at<'a, 'b>(words: &'b [&'a [u8]]) -> Option<(FunctionForm, &'b [&'a 
     Some((FunctionForm::Ramp(start, slope), words))
 }
 
-/// The function `step X L H`, and the words behind it.
+/// The function `step X L H`, and the words after it.
 pub fn step_at<'a, 'b>(words: &'b [&'a [u8]]) -> Option<(FunctionForm, &'b [&'a [u8]])>
     ensures { function_read result ≡ step_at (texts words.now) }
 {
@@ -99,7 +99,7 @@ pub fn step_at<'a, 'b>(words: &'b [&'a [u8]]) -> Option<(FunctionForm, &'b [&'a 
     Some((FunctionForm::Step(edge, before, behind), words))
 }
 
-/// The function `box X Y V`, and the words behind it.
+/// The function `box X Y V`, and the words after it.
 pub fn box_at<'a, 'b>(words: &'b [&'a [u8]]) -> Option<(FunctionForm, &'b [&'a [u8]])>
     ensures { function_read result ≡ box_at (texts words.now) }
 {
@@ -110,7 +110,7 @@ pub fn box_at<'a, 'b>(words: &'b [&'a [u8]]) -> Option<(FunctionForm, &'b [&'a [
     Some((FunctionForm::Box(start, end, value), words))
 }
 
-/// The function `hash S M`, and the words behind it.
+/// The function `hash S M`, and the words after it.
 pub fn hash_at<'a, 'b>(words: &'b [&'a [u8]]) -> Option<(FunctionForm, &'b [&'a [u8]])>
     ensures { function_read result ≡ hash_at (texts words.now) }
 {
@@ -120,7 +120,7 @@ pub fn hash_at<'a, 'b>(words: &'b [&'a [u8]]) -> Option<(FunctionForm, &'b [&'a 
     Some((FunctionForm::Hash(seed, modulus), words))
 }
 
-/// A function, and the words behind it.
+/// A function, and the words after it.
 pub fn function_at<'a, 'b>(words: &'b [&'a [u8]]) -> Option<(FunctionForm, &'b [&'a [u8]])>
     ensures { function_read result ≡ function_at (texts words.now) }
 {

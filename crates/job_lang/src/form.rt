@@ -146,7 +146,7 @@ impl Form {
         Some(Form::Mul { name, left, right })
     }
 
-    /// The form of the words behind a verb. None exactly where they aren't in its form.
+    /// The form of the words after a verb. None exactly where they aren't in its form.
     pub fn of_words(verb: Verb, words: &[&[u8]]) -> Option<Form>
         ensures { option_map form_data result ≡ form_of verb (texts words.now) }
     {

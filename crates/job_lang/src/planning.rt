@@ -11,7 +11,7 @@ use tree_key::OutOfMemory;
 pub fn plan(alloc: Global, job: &Job) -> Result<Plan, OutOfMemory>
     ensures { IfOk result (λ plan. plan ≡ plan_of job.now) }
 {
-    // Called for its clause `job` alone: each command is accepted behind those before it, and so is among the first 512,
+    // Called for its clause `job` alone: each command is accepted after those before it, and so is among the first 512,
     // which `step_of` and `add` ask.
     let _depth = job.depth();
     let commands = job.commands();

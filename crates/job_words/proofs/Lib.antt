@@ -1,4 +1,4 @@
-pub mod Positions
-pub mod LineCuts
-pub mod WordLaws
+pub mod PositionLemmas
+pub mod LineLemmas
+pub mod WordLemmas
 pub mod NameLemmas

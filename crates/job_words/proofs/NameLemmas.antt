@@ -22,8 +22,8 @@ zero_at (suc n) zero = refl
 zero_at (suc n) (suc i) = zero_at n i
 
 -- what is kept of a word is the word
-unpadded-padded : (word : List ℕ) (n : ℕ) → list_all is_name_byte word ≡ true → unpadded (word ++ zeros n) ≡ word
-unpadded-padded word n all =
+unpadded_padded : (word : List ℕ) (n : ℕ) → list_all is_name_byte word ≡ true → unpadded (word ++ zeros n) ≡ word
+unpadded_padded word n all =
     let many : length (zeros n) ≡ n = length-replicate {A = ℕ} n 0 in
     let long : length (word ++ zeros n) ≡ length word + n = omega (arith, length-append word (zeros n), many) in
     let before : (k : ℕ) → k < length word → is_zero (get_or (word ++ zeros n) k 0) ≡ false =
@@ -34,7 +34,7 @@ unpadded-padded word n all =
     position_or_len_is is_zero (word ++ zeros n) (length word) 0 (omega (arith, long)) before (λ below. there) in
     ap (λ k. take k (word ++ zeros n)) first ∙ take_at word (zeros n) (length word) refl
 
-pub name-padded : (word : List ℕ) (n : ℕ) → is_name word ≡ true → unpadded (word ++ zeros n) ≡ word
-name-padded word n is =
+pub name_padded : (word : List ℕ) (n : ℕ) → is_name word ≡ true → unpadded (word ++ zeros n) ≡ word
+name_padded word n is =
     let rest = (and_parts (is_letter (slice_index word 0)) (nat_le (length word) 16 && list_all is_name_byte word) is).1 in
-    unpadded-padded word n (and_parts (nat_le (length word) 16) (list_all is_name_byte word) rest).1
+    unpadded_padded word n (and_parts (nat_le (length word) 16) (list_all is_name_byte word) rest).1

@@ -33,7 +33,7 @@ is_passed_over (word ∷ rest) = slice_index word 0 == 35
 abbrev pub is_allowed : ℕ → Bool
 is_allowed byte = (byte == 9) || (nat_le 32 byte && nat_le byte 126)
 
--- words, each behind a space
+-- words, each after a space
 abbrev pub spaced : Words → List ℕ
 spaced [] = []
 spaced (word ∷ rest) = 32 ∷ word ++ spaced rest

@@ -1,3 +1,4 @@
+//! Sources and sinks, read and written whole, with failures as planned.
 ghost use Rattle.std.specs.Prelude.{◌≡◌, ◌≤◌, ◌++◌, [], length, IsOk, OnErr, IsErrOf};
 ghost use Rattle.outside.specs.Causes.{Rose};
 

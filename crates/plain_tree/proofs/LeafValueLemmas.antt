@@ -6,29 +6,29 @@ use Rattle.tree_key.specs.Keys.{Key, child, width}
 use Rattle.tree_model.specs.Functions.{max_value}
 use Rattle.tree_model.specs.Shapes.{is_leaf}
 use Rattle.tree_model.specs.Trees.{Tree, IsTree, box_sum}
-use Rattle.tree_model.proofs.Combined.{leaf-is}
+use Rattle.tree_model.proofs.CombinedTreeLemmas.{leaf_there}
 use Rattle.plain_tree.specs.Numbers.{same_key}
 use Rattle.plain_tree.specs.Filling.{under}
 use Rattle.plain_tree.specs.LeafValues.{LeavesHaveValues}
-use Rattle.plain_tree.proofs.ShapeLemmas.{no-leaf-below}
-use Rattle.plain_tree.proofs.Under.{under-split, same-key}
+use Rattle.plain_tree.proofs.ShapeLemmas.{no_leaf_below}
+use Rattle.plain_tree.proofs.SubtreeLemmas.{under_split, same_key_holds}
 
 -- a leaf is the only one at its key and below it
-pub leaf-has-values : (t : Tree) (key : Key) → IsTree t → is_leaf t.shape key ≡ true → unsigned_abs (box_sum t key) ≤ width t.depth key * max_value → LeavesHaveValues t key
-leaf-has-values t key tree leaf small = record {
+pub leaf_has_values : (t : Tree) (key : Key) → IsTree t → is_leaf t.shape key ≡ true → unsigned_abs (box_sum t key) ≤ width t.depth key * max_value → LeavesHaveValues t key
+leaf_has_values t key tree leaf small = record {
   at = λ k inside is_one. elim (cases_Bool (same_key key k)) [
-    | inl same ↦ subst (λ (other : Key). unsigned_abs (box_sum t other) ≤ width t.depth other * max_value) (same-key key k same) small
-    | inr apart ↦ absurd (let none = no-leaf-below t.depth t.shape key k tree.shape (leaf-is t.shape key leaf).whole inside apart in cc)
+    | inl same ↦ subst (λ (other : Key). unsigned_abs (box_sum t other) ≤ width t.depth other * max_value) (same_key_holds key k same) small
+    | inr apart ↦ absurd (let none = no_leaf_below t.depth t.shape key k tree.shape (leaf_there t.shape key leaf).whole inside apart in cc)
   ];
 }
 
 -- leaves below a key with children lie at or below one of these
-pub halves-have-values : (t : Tree) (key : Key) → t.shape (child key false) ≡ true → LeavesHaveValues t (child key false) → LeavesHaveValues t (child key true) → LeavesHaveValues t key
-halves-have-values t key cut left right = record {
-  at = λ k inside is_one. elim (or_cases (same_key key k) (under (child key false) k || under (child key true) k) (sym (under-split key k) ∙ inside)) [
+pub halves_have_values : (t : Tree) (key : Key) → t.shape (child key false) ≡ true → LeavesHaveValues t (child key false) → LeavesHaveValues t (child key true) → LeavesHaveValues t key
+halves_have_values t key cut left right = record {
+  at = λ k inside is_one. elim (or_cases (same_key key k) (under (child key false) k || under (child key true) k) (sym (under_split key k) ∙ inside)) [
     | inl same ↦
-        let leaf : is_leaf t.shape key ≡ true = subst (λ (other : Key). is_leaf t.shape other ≡ true) (sym (same-key key k same)) is_one in
-        absurd (let whole = (leaf-is t.shape key leaf).whole in cc)
+        let leaf : is_leaf t.shape key ≡ true = subst (λ (other : Key). is_leaf t.shape other ≡ true) (sym (same_key_holds key k same)) is_one in
+        absurd (let whole = (leaf_there t.shape key leaf).whole in cc)
     | inr below ↦ elim (or_cases (under (child key false) k) (under (child key true) k) below) [
       | inl first ↦ left.at k first is_one
       | inr second ↦ right.at k second is_one

@@ -9,69 +9,69 @@ use Rattle.tree_model.specs.Commands.{Command}
 use Rattle.tree_model.specs.Jobs.{command_lines, lines_from, overflow_from}
 use Rattle.tree_model.specs.Versions.{Versions, no_versions, after, versions_behind, command_overflows}
 use Rattle.job_data.specs.Checks.{is_within_limits, are_accepted, has_room, has_trees, has_forms, is_near_fence, max_commands}
-use Rattle.job_data.proofs.CheckLaws.{accepted-at, are_accepted-at, follows-accepted}
+use Rattle.job_data.proofs.CheckLemmas.{accepted_at, are_accepted_at, follows_accepted}
 
 -- the command at a place
 pub record IsAt (cs : List Command) (i : ℕ) (c : Command) : Type 0 where
   pub below : i < length cs
   pub at : get_or cs i c ≡ c
 
-pub mapped-at : {A : Type 0} (f : A → Command) (xs : List A) (i : ℕ) (x : A) → i < length xs → x ≡ get_or xs i x → IsAt (map f xs) i (f x)
-mapped-at f xs i x below is = record { below = rw (length-map xs f) below; at = get_or-map f xs i x (f x) below ∙ ap f (sym is) }
+pub mapped_at : {A : Type 0} (f : A → Command) (xs : List A) (i : ℕ) (x : A) → i < length xs → x ≡ get_or xs i x → IsAt (map f xs) i (f x)
+mapped_at f xs i x below is = record { below = rw (length-map xs f) below; at = get_or-map f xs i x (f x) below ∙ ap f (sym is) }
 
-take-next : (cs : List Command) (i : ℕ) (c : Command) → IsAt cs i c → take (i + 1) cs ≡ take i cs ++ c ∷ []
-take-next cs i c is = take_more cs i c is.below ∙ ap (λ x. take i cs ++ x ∷ []) is.at
+take_next : (cs : List Command) (i : ℕ) (c : Command) → IsAt cs i c → take (i + 1) cs ≡ take i cs ++ c ∷ []
+take_next cs i c is = take_more cs i c is.below ∙ ap (λ x. take i cs ++ x ∷ []) is.at
 
-pub drop-next : (cs : List Command) (i : ℕ) (c : Command) → IsAt cs i c → drop i cs ≡ c ∷ drop (i + 1) cs
-drop-next cs i c is = drop-cons cs i c is.below ∙ ap (λ x. x ∷ drop (suc i) cs) is.at ∙ ap (λ n. c ∷ drop n cs) (sym (add-one i))
+pub drop_next : (cs : List Command) (i : ℕ) (c : Command) → IsAt cs i c → drop i cs ≡ c ∷ drop (i + 1) cs
+drop_next cs i c is = drop-cons cs i c is.below ∙ ap (λ x. x ∷ drop (suc i) cs) is.at ∙ ap (λ n. c ∷ drop n cs) (sym (add-one i))
 
-pub versions-next : (depth : ℕ) (cs : List Command) (i : ℕ) (c : Command) → IsAt cs i c → versions_behind depth (take (i + 1) cs) ≡ after depth (versions_behind depth (take i cs)) c
-versions-next depth cs i c is = ap (versions_behind depth) (take-next cs i c is) ∙ fold_push (after depth) no_versions (take i cs) c
+pub versions_next : (depth : ℕ) (cs : List Command) (i : ℕ) (c : Command) → IsAt cs i c → versions_behind depth (take (i + 1) cs) ≡ after depth (versions_behind depth (take i cs)) c
+versions_next depth cs i c is = ap (versions_behind depth) (take_next cs i c is) ∙ fold_push (after depth) no_versions (take i cs) c
 
-lines-push : (depth : ℕ) (versions : Versions) (cs : List Command) (c : Command) → lines_from depth versions (cs ++ c ∷ []) ≡ lines_from depth versions cs ++ command_lines (fold (after depth) versions cs) c
-lines-push depth versions [] c = append-nil (command_lines versions c)
-lines-push depth versions (x ∷ cs) c =
-    ap (λ rest. command_lines versions x ++ rest) (lines-push depth (after depth versions x) cs c)
+lines_push : (depth : ℕ) (versions : Versions) (cs : List Command) (c : Command) → lines_from depth versions (cs ++ c ∷ []) ≡ lines_from depth versions cs ++ command_lines (fold (after depth) versions cs) c
+lines_push depth versions [] c = append-nil (command_lines versions c)
+lines_push depth versions (x ∷ cs) c =
+    ap (λ rest. command_lines versions x ++ rest) (lines_push depth (after depth versions x) cs c)
     ∙ sym (append_assoc (command_lines versions x) (lines_from depth (after depth versions x) cs) (command_lines (fold (after depth) (after depth versions x) cs) c))
 
-pub lines-next :
+pub lines_next :
     (depth : ℕ) (cs : List Command) (i : ℕ) (c : Command) →
     IsAt cs i c →
     lines_from depth no_versions (take (i + 1) cs) ≡ lines_from depth no_versions (take i cs) ++ command_lines (versions_behind depth (take i cs)) c
-lines-next depth cs i c is = ap (lines_from depth no_versions) (take-next cs i c is) ∙ lines-push depth no_versions (take i cs) c
+lines_next depth cs i c is = ap (lines_from depth no_versions) (take_next cs i c is) ∙ lines_push depth no_versions (take i cs) c
 
 -- the first overflow isn't at this command
-pub overflow-later :
+pub overflow_later :
     (depth : ℕ) (cs : List Command) (i : ℕ) (c : Command) →
     IsAt cs i c →
     command_overflows depth (versions_behind depth (take i cs)) c ≡ false →
     overflow_from depth (versions_behind depth (take i cs)) (i + 1) (drop i cs) ≡ overflow_from depth (versions_behind depth (take (i + 1) cs)) (i + 1 + 1) (drop (i + 1) cs)
-overflow-later depth cs i c is within =
+overflow_later depth cs i c is within =
     let before = versions_behind depth (take i cs) in
-    ap (overflow_from depth before (i + 1)) (drop-next cs i c is)
+    ap (overflow_from depth before (i + 1)) (drop_next cs i c is)
     ∙ ap (λ b. cond b (Some (i + 1)) (overflow_from depth (after depth before c) (i + 1 + 1) (drop (i + 1) cs))) within
-    ∙ ap (λ versions. overflow_from depth versions (i + 1 + 1) (drop (i + 1) cs)) (sym (versions-next depth cs i c is))
+    ∙ ap (λ versions. overflow_from depth versions (i + 1 + 1) (drop (i + 1) cs)) (sym (versions_next depth cs i c is))
 
 -- the first overflow is at this command
-pub overflow-here :
+pub overflow_here :
     (depth : ℕ) (cs : List Command) (i : ℕ) (c : Command) →
     IsAt cs i c →
     command_overflows depth (versions_behind depth (take i cs)) c ≡ true →
     overflow_from depth (versions_behind depth (take i cs)) (i + 1) (drop i cs) ≡ Some (i + 1)
-overflow-here depth cs i c is over =
+overflow_here depth cs i c is over =
     let before = versions_behind depth (take i cs) in
-    ap (overflow_from depth before (i + 1)) (drop-next cs i c is)
+    ap (overflow_from depth before (i + 1)) (drop_next cs i c is)
     ∙ ap (λ b. cond b (Some (i + 1)) (overflow_from depth (after depth before c) (i + 1 + 1) (drop (i + 1) cs))) over
 
 -- a command of a job is within its limits, and there are at most 512
-pub limits-at : (depth : ℕ) (cs : List Command) (i : ℕ) (c : Command) → are_accepted depth [] cs ≡ true → IsAt cs i c → is_within_limits depth c ≡ true
-limits-at depth cs i c all is = subst (λ d. is_within_limits depth d ≡ true) is.at (accepted-at depth [] cs i c all is.below)
+pub limits_at : (depth : ℕ) (cs : List Command) (i : ℕ) (c : Command) → are_accepted depth [] cs ≡ true → IsAt cs i c → is_within_limits depth c ≡ true
+limits_at depth cs i c all is = subst (λ d. is_within_limits depth d ≡ true) is.at (accepted_at depth [] cs i c all is.below)
 
-pub few-before : (depth : ℕ) (cs : List Command) (i : ℕ) (c : Command) → are_accepted depth [] cs ≡ true → IsAt cs i c → i < max_commands
-few-before depth cs i c all is =
+pub few_before : (depth : ℕ) (cs : List Command) (i : ℕ) (c : Command) → are_accepted depth [] cs ≡ true → IsAt cs i c → i < max_commands
+few_before depth cs i c all is =
     let before = take i cs in
     let d = get_or cs i c in
-    let follows = follows-accepted depth before d (are_accepted-at depth [] cs i c all is.below) in
+    let follows = follows_accepted depth before d (are_accepted_at depth [] cs i c all is.below) in
     let room = (and_parts (has_room before d) (has_trees before d && (has_forms before d && is_near_fence before d)) follows).0 in
     let few = ltb-true (length before) max_commands (and_parts _ _ room).0 in
     let below = is.below in

@@ -6,12 +6,12 @@ use Rattle.std.proofs.lemmas.Bool.{false_from_ne_true}
 use Rattle.std.proofs.lemmas.Int.{ints}
 use Rattle.std.proofs.lemmas.Option.{none-some, same_Some}
 use Rattle.tree_key.specs.Keys.{Key, child}
-use Rattle.tree_model.specs.Kept.{whole_sum}
+use Rattle.tree_model.specs.StoredTrees.{whole_sum}
 use Rattle.tree_model.specs.Shapes.{IsShape, is_key_of}
 use Rattle.tree_model.specs.Trees.{Tree, IsTree, box_sum}
-use Rattle.tree_model.proofs.BoxSums.{box_sum-children}
-use Rattle.tree_model.proofs.Integers.{quotient-of-multiple}
-use Rattle.tree_model.proofs.KeptLaws.{whole-boxes-are-even}
+use Rattle.tree_model.proofs.BoxSumLemmas.{box_sum_children}
+use Rattle.tree_model.proofs.IntegerLemmas.{quotient_of_a_multiple}
+use Rattle.tree_model.proofs.StoredTreeLemmas.{whole_boxes_are_even}
 use Rattle.plain_tree.specs.Numbers.{number_at, KeepsLeaves}
 use Rattle.plain_tree.specs.WholeSums.{sum_from_above, half_sum}
 
@@ -20,75 +20,75 @@ abbrev pub AnswersWholeSum : BTreeMap Key ℤ → Key → Option ℤ → Option 
 AnswersWholeSum leaves key above whole = (t : Tree) → KeepsLeaves t leaves → above ≡ sum_from_above t key → whole ≡ whole_sum t key
 
 -- a key that isn't there has no child
-absent-below : (depth : ℕ) (shape : Key → Bool) (k : Key) (right : Bool) → IsShape depth shape → shape k ≡ false → shape (child k right) ≡ false
-absent-below depth shape k right is absent = false_from_ne_true (shape (child k right)) (λ there. (let parent = is.parents k right there in cc))
+absent_below : (depth : ℕ) (shape : Key → Bool) (k : Key) (right : Bool) → IsShape depth shape → shape k ≡ false → shape (child k right) ≡ false
+absent_below depth shape k right is absent = false_from_ne_true (shape (child k right)) (λ there. (let parent = is.parents k right there in cc))
 
 -- a key without a left child has no right one, and with one it has both
-pub as-left : (depth : ℕ) (shape : Key → Bool) (k : Key) (right : Bool) → IsShape depth shape → shape (child k right) ≡ shape (child k false)
-as-left depth shape k true is = is.children k
-as-left depth shape k false is = refl
+pub as_left : (depth : ℕ) (shape : Key → Bool) (k : Key) (right : Bool) → IsShape depth shape → shape (child k right) ≡ shape (child k false)
+as_left depth shape k true is = is.children k
+as_left depth shape k false is = refl
 
-sum-below : (here cut : Bool) (above sum : ℤ) → (here ≡ false → cut ≡ false) → Some above ≡ cond here None (Some sum) → Some above ≡ cond cut None (Some sum)
-sum-below true cut above sum below is = absurd (none-some above (sym is))
-sum-below false cut above sum below is = rw (below refl) is
+sum_below : (here cut : Bool) (above sum : ℤ) → (here ≡ false → cut ≡ false) → Some above ≡ cond here None (Some sum) → Some above ≡ cond cut None (Some sum)
+sum_below true cut above sum below is = absurd (none-some above (sym is))
+sum_below false cut above sum below is = rw (below refl) is
 
-sum-at-key : (here cut : Bool) (number : Option ℤ) (sum : ℤ) → None ≡ cond here None (Some sum) → number ≡ cond (here && not cut) (Some sum) None → number ≡ cond cut None (Some sum)
-sum-at-key true true number sum none is = is
-sum-at-key true false number sum none is = is
-sum-at-key false cut number sum none is = absurd (none-some sum none)
+sum_at_key : (here cut : Bool) (number : Option ℤ) (sum : ℤ) → None ≡ cond here None (Some sum) → number ≡ cond (here && not cut) (Some sum) None → number ≡ cond cut None (Some sum)
+sum_at_key true true number sum none is = is
+sum_at_key true false number sum none is = is
+sum_at_key false cut number sum none is = absurd (none-some sum none)
 
 -- the sum from above, where there is one
-pub whole-from-above : (t : Tree) (leaves : BTreeMap Key ℤ) (k : Key) (above : ℤ) → KeepsLeaves t leaves → Some above ≡ sum_from_above t k → Some above ≡ whole_sum t k
-whole-from-above t leaves k above keeps is = sum-below (t.shape k) (t.shape (child k false)) above (box_sum t k) (absent-below t.depth t.shape k false keeps.sound.tree.shape) is
+pub whole_from_above : (t : Tree) (leaves : BTreeMap Key ℤ) (k : Key) (above : ℤ) → KeepsLeaves t leaves → Some above ≡ sum_from_above t k → Some above ≡ whole_sum t k
+whole_from_above t leaves k above keeps is = sum_below (t.shape k) (t.shape (child k false)) above (box_sum t k) (absent_below t.depth t.shape k false keeps.sound.tree.shape) is
 
 -- and else the number at the key
-pub whole-from-number : (t : Tree) (leaves : BTreeMap Key ℤ) (k : Key) → KeepsLeaves t leaves → None ≡ sum_from_above t k → number_at leaves k ≡ whole_sum t k
-whole-from-number t leaves k keeps none = sum-at-key (t.shape k) (t.shape (child k false)) (number_at leaves k) (box_sum t k) none (keeps.at k)
+pub whole_from_number : (t : Tree) (leaves : BTreeMap Key ℤ) (k : Key) → KeepsLeaves t leaves → None ≡ sum_from_above t k → number_at leaves k ≡ whole_sum t k
+whole_from_number t leaves k keeps none = sum_at_key (t.shape k) (t.shape (child k false)) (number_at leaves k) (box_sum t k) none (keeps.at k)
 
-halves-of-tests : (cut below : Bool) (sum half : ℤ) → below ≡ cut → (cut ≡ false → int_div sum (pos 2) ≡ half) → cond below None (Some half) ≡ half_sum (cond cut None (Some sum))
-halves-of-tests true below sum half same is = rw same refl
-halves-of-tests false below sum half same is = rw (same, is refl) refl
+halves_of_tests : (cut below : Bool) (sum half : ℤ) → below ≡ cut → (cut ≡ false → int_div sum (pos 2) ≡ half) → cond below None (Some half) ≡ half_sum (cond cut None (Some sum))
+halves_of_tests true below sum half same is = rw same refl
+halves_of_tests false below sum half same is = rw (same, is refl) refl
 
 -- a half of two that have one sum
-half-of-even : (left right sum half : ℤ) → left -ℤ right ≡ pos 0 → sum ≡ left +ℤ right → half ≡ left → int_div sum (pos 2) ≡ half
-half-of-even left right sum half even is same =
+half_of_even : (left right sum half : ℤ) → left -ℤ right ≡ pos 0 → sum ≡ left +ℤ right → half ≡ left → int_div sum (pos 2) ≡ half
+half_of_even left right sum half even is same =
     let twice : sum ≡ pos 2 *ℤ half = omega (arith, ints) in
-    rw twice (quotient-of-multiple 2 half (omega arith))
+    rw twice (quotient_of_a_multiple 2 half (omega arith))
 
-half-is : (t : Tree) (k : Key) (right : Bool) → IsTree t → is_key_of t.depth k ≡ true → t.shape (child k false) ≡ false → k.level < t.depth → int_div (box_sum t k) (pos 2) ≡ box_sum t (child k right)
-half-is t k true tree key uncut above =
-    let even = whole-boxes-are-even t k tree (record { key = key; uncut = uncut }) above in
-    half-of-even (box_sum t (child k false)) (box_sum t (child k true)) (box_sum t k) (box_sum t (child k true)) even (box_sum-children t k above) (omega (arith, ints))
-half-is t k false tree key uncut above =
-    let even = whole-boxes-are-even t k tree (record { key = key; uncut = uncut }) above in
-    half-of-even (box_sum t (child k false)) (box_sum t (child k true)) (box_sum t k) (box_sum t (child k false)) even (box_sum-children t k above) refl
+half_is : (t : Tree) (k : Key) (right : Bool) → IsTree t → is_key_of t.depth k ≡ true → t.shape (child k false) ≡ false → k.level < t.depth → int_div (box_sum t k) (pos 2) ≡ box_sum t (child k right)
+half_is t k true tree key uncut above =
+    let even = whole_boxes_are_even t k tree (record { key = key; uncut = uncut }) above in
+    half_of_even (box_sum t (child k false)) (box_sum t (child k true)) (box_sum t k) (box_sum t (child k true)) even (box_sum_children t k above) (omega (arith, ints))
+half_is t k false tree key uncut above =
+    let even = whole_boxes_are_even t k tree (record { key = key; uncut = uncut }) above in
+    half_of_even (box_sum t (child k false)) (box_sum t (child k true)) (box_sum t k) (box_sum t (child k false)) even (box_sum_children t k above) refl
 
 -- the sum that is passed down to a child is half of that over the key's box, where the tree doesn't cut it
-pub half-from-above : (t : Tree) (k : Key) (right : Bool) → IsTree t → is_key_of t.depth k ≡ true → k.level < t.depth → sum_from_above t (child k right) ≡ half_sum (whole_sum t k)
-half-from-above t k right tree key above =
-    halves-of-tests (t.shape (child k false)) (t.shape (child k right)) (box_sum t k) (box_sum t (child k right)) (as-left t.depth t.shape k right tree.shape) (λ uncut. half-is t k right tree key uncut above)
+pub half_from_above : (t : Tree) (k : Key) (right : Bool) → IsTree t → is_key_of t.depth k ≡ true → k.level < t.depth → sum_from_above t (child k right) ≡ half_sum (whole_sum t k)
+half_from_above t k right tree key above =
+    halves_of_tests (t.shape (child k false)) (t.shape (child k right)) (box_sum t k) (box_sum t (child k right)) (as_left t.depth t.shape k right tree.shape) (λ uncut. half_is t k right tree key uncut above)
 
 -- a sum that is there is that over the box, which the tree doesn't cut
 pub record IsWholeWith (t : Tree) (k : Key) (number : ℤ) : Type 0 where
   pub uncut : t.shape (child k false) ≡ false
   pub sum : number ≡ box_sum t k
 
-whole-tests : (cut : Bool) (found sum : ℤ) → Some found ≡ cond cut None (Some sum) → (cut ≡ false) × (found ≡ sum)
-whole-tests true found sum is = absurd (none-some found (sym is))
-whole-tests false found sum is = (refl, same_Some found sum is)
+whole_tests : (cut : Bool) (found sum : ℤ) → Some found ≡ cond cut None (Some sum) → (cut ≡ false) × (found ≡ sum)
+whole_tests true found sum is = absurd (none-some found (sym is))
+whole_tests false found sum is = (refl, same_Some found sum is)
 
-pub whole-with : (t : Tree) (k : Key) (sum : ℤ) → Some sum ≡ whole_sum t k → IsWholeWith t k sum
-whole-with t k sum is =
-    let parts = whole-tests (t.shape (child k false)) sum (box_sum t k) is in
+pub whole_with : (t : Tree) (k : Key) (sum : ℤ) → Some sum ≡ whole_sum t k → IsWholeWith t k sum
+whole_with t k sum is =
+    let parts = whole_tests (t.shape (child k false)) sum (box_sum t k) is in
     record { uncut = parts.0; sum = parts.1 }
 
-cut-tests : (cut : Bool) (sum : ℤ) → None ≡ cond cut None (Some sum) → cut ≡ true
-cut-tests true sum is = refl
-cut-tests false sum is = absurd (none-some sum is)
+cut_tests : (cut : Bool) (sum : ℤ) → None ≡ cond cut None (Some sum) → cut ≡ true
+cut_tests true sum is = refl
+cut_tests false sum is = absurd (none-some sum is)
 
 -- and where there is none the tree cuts the box
-pub cut-where-none : (t : Tree) (k : Key) → None ≡ whole_sum t k → t.shape (child k false) ≡ true
-cut-where-none t k is = cut-tests (t.shape (child k false)) (box_sum t k) is
+pub cut_where_none : (t : Tree) (k : Key) → None ≡ whole_sum t k → t.shape (child k false) ≡ true
+cut_where_none t k is = cut_tests (t.shape (child k false)) (box_sum t k) is
 
 -- a key whose box the tree cuts: it lies above the depth, and has children
 pub record IsCut (t : Tree) (key : Key) : Type 0 where

@@ -5,7 +5,7 @@ pub mod Adding
 pub mod InnerProducts
 pub mod Projecting
 pub mod Lines
-pub mod Kept
+pub mod StoredTrees
 pub mod Trees
 pub mod WholeSums
 pub mod Multiplied

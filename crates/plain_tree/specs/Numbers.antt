@@ -3,7 +3,7 @@ use Rattle.std.specs.Prelude.{◌≡◌, ◌≤◌, Bool, ◌&&◌, ◌==◌, Op
 use Rattle.std.specs.BTreeMap.{BTreeMap, get}
 use Rattle.tree_key.specs.Keys.{Key, key_cmp}
 use Rattle.tree_model.specs.Functions.{max_depth}
-use Rattle.tree_model.specs.Kept.{leaf_sum_at, difference_at}
+use Rattle.tree_model.specs.StoredTrees.{leaf_sum_at, difference_at}
 use Rattle.tree_model.specs.Trees.{Tree, IsTree, HasValues}
 
 -- the number that a map has at a key

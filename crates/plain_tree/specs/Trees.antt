@@ -5,13 +5,13 @@ use Rattle.std.specs.Cmp.Lexicographic.{slice_cmp}
 use Rattle.std.specs.Ordering.{nat_cmp}
 use Rattle.std.specs.BTreeMap.{BTreeMap, get_by}
 use Rattle.tree_model.specs.Versions.{Versions}
-use Rattle.plain_tree.specs.Kept.{Matches}
-use Rattle.plain_tree.specs.declared.kept.Kept.{Kept}
+use Rattle.plain_tree.specs.StoredTrees.{Matches}
+use Rattle.plain_tree.specs.declared.stored.StoredTree.{StoredTree}
 
 -- the tree that a map has for a name
-abbrev pub kept_at : BTreeMap (Bor (List ℕ)) Kept → List ℕ → Option Kept
+abbrev pub kept_at : BTreeMap (Bor (List ℕ)) StoredTree → List ℕ → Option StoredTree
 kept_at trees name = get_by (λ key. slice_cmp nat_cmp name key.now) trees
 
 -- the map has for each name the version that the name stands for
-pub record HasVersions (depth : ℕ) (versions : Versions) (trees : BTreeMap (Bor (List ℕ)) Kept) : Type 0 where
+pub record HasVersions (depth : ℕ) (versions : Versions) (trees : BTreeMap (Bor (List ℕ)) StoredTree) : Type 0 where
   pub at : (name : List ℕ) → Matches depth (kept_at trees name) (versions name)

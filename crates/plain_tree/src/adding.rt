@@ -5,7 +5,7 @@ ghost use Rattle.std.specs.Int.RustNames.{unsigned_abs};
 ghost use Rattle.std.specs.Option.{option_map};
 ghost use Rattle.tree_key.specs.Keys.{child, width};
 ghost use Rattle.tree_model.specs.Functions.{max_depth};
-ghost use Rattle.tree_model.specs.Kept.{difference_at};
+ghost use Rattle.tree_model.specs.StoredTrees.{difference_at};
 ghost use Rattle.tree_model.specs.Operations.{weighted_sum, overflows};
 ghost use Rattle.tree_model.specs.Trees.{Tree};
 ghost use Rattle.plain_tree.specs.Adding.{AreKept, AreKeptAt, two_differences};

@@ -1,6 +1,6 @@
 //! From sums at leaves to differences.
 ghost use Rattle.std.specs.Prelude.{◌≡◌, IfOk, OnOk, true};
-ghost use Rattle.tree_model.specs.Kept.{difference_at};
+ghost use Rattle.tree_model.specs.StoredTrees.{difference_at};
 ghost use Rattle.tree_model.specs.Trees.{Tree, box_sum};
 ghost use Rattle.plain_tree.specs.Filling.{Fills};
 ghost use Rattle.plain_tree.specs.Numbers.{KeepsLeaves};

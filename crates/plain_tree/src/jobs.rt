@@ -8,7 +8,7 @@ ghost use Rattle.tree_model.specs.Signatures.{written_name};
 ghost use Rattle.tree_model.specs.Versions.{Versions, written, after, command_overflows};
 ghost use Rattle.job_data.specs.Checks.{is_within_limits};
 ghost use Rattle.job_data.specs.Data.{data_of};
-ghost use Rattle.plain_tree.specs.Kept.{Matches};
+ghost use Rattle.plain_tree.specs.StoredTrees.{Matches};
 ghost use Rattle.plain_tree.specs.Trees.{HasVersions};
 
 use crate::command_error::CommandError;

@@ -12,7 +12,6 @@ mod command_error;
 mod compressing;
 mod inner_products;
 mod jobs;
-mod kept;
 mod lines;
 mod multiplying;
 mod numbers;
@@ -21,6 +20,7 @@ mod projecting;
 mod reconstructing;
 mod refining;
 mod serial_error;
+mod stored;
 #[cfg(test)]
 mod tests;
 mod trees;

@@ -6,11 +6,11 @@ ghost use Rattle.std.specs.List.{flat_map};
 ghost use Rattle.tree_key.specs.Keys.{key_cmp};
 ghost use Rattle.tree_model.specs.OperationTexts.{printed_lines};
 ghost use Rattle.tree_model.specs.Versions.{Version};
-ghost use Rattle.plain_tree.specs.Kept.{KeepsForm};
+ghost use Rattle.plain_tree.specs.StoredTrees.{KeepsForm};
 ghost use Rattle.plain_tree.specs.Lines.{number_line, sums_text, differences_text};
 
-use crate::kept::{Compressed, Kept};
 use crate::numbers::Numbers;
+use crate::stored::{Compressed, StoredTree};
 use itoa::Buffer;
 use tree_key::{Key, OutOfMemory, Text};
 
@@ -102,14 +102,14 @@ fn add_compressed(text: &mut Text, name: &[u8], tree: &Compressed) -> Result<(),
 }
 
 /// Adds what `print` writes of a tree in the form that it is kept in.
-pub fn add_tree(text: &mut Text, name: &[u8], kept: &Kept) -> Result<(), OutOfMemory>
+pub fn add_tree(text: &mut Text, name: &[u8], kept: &StoredTree) -> Result<(), OutOfMemory>
     ensures { OnOk result ((depth : ℕ) (version : Version) →
         KeepsForm depth version.form version.tree kept.now →
         text.new ≡ text.old ++ printed_lines version.form name.now version.tree) }
 {
     match kept {
-        Kept::Reconstructed(leaves) => add_reconstructed(text, name, leaves),
-        Kept::Compressed(tree) => add_compressed(text, name, tree),
+        StoredTree::Reconstructed(leaves) => add_reconstructed(text, name, leaves),
+        StoredTree::Compressed(tree) => add_compressed(text, name, tree),
     }
 }
 

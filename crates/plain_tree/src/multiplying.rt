@@ -3,7 +3,7 @@ ghost use Rattle.std.specs.Prelude.{◌≡◌, ◌*◌, ◌≤◌, true, IfOk, O
 ghost use Rattle.std.specs.Int.RustNames.{unsigned_abs};
 ghost use Rattle.tree_key.specs.Keys.{width};
 ghost use Rattle.tree_model.specs.Functions.{max_value};
-ghost use Rattle.tree_model.specs.Kept.{leaf_sum_at};
+ghost use Rattle.tree_model.specs.StoredTrees.{leaf_sum_at};
 ghost use Rattle.tree_model.specs.Operations.{product, overflows};
 ghost use Rattle.tree_model.specs.Trees.{Tree, box_sum};
 ghost use Rattle.plain_tree.specs.Filling.{Fills};

@@ -1,6 +1,6 @@
 //! From differences to sums at leaves.
 ghost use Rattle.std.specs.Prelude.{◌≡◌, OnOk, true};
-ghost use Rattle.tree_model.specs.Kept.{leaf_sum_at};
+ghost use Rattle.tree_model.specs.StoredTrees.{leaf_sum_at};
 ghost use Rattle.tree_model.specs.Trees.{Tree, box_sum};
 ghost use Rattle.plain_tree.specs.Filling.{Fills};
 ghost use Rattle.plain_tree.specs.Numbers.{KeepsDifferences};

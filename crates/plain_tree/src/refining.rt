@@ -1,6 +1,6 @@
 //! More keys for a tree: all down to a level.
 ghost use Rattle.std.specs.Prelude.{◌≡◌, ◌≤◌, true, OnOk};
-ghost use Rattle.tree_model.specs.Kept.{leaf_sum_at, whole_sum};
+ghost use Rattle.tree_model.specs.StoredTrees.{leaf_sum_at, whole_sum};
 ghost use Rattle.tree_model.specs.Operations.{refined};
 ghost use Rattle.tree_model.specs.Shapes.{is_key_of};
 ghost use Rattle.tree_model.specs.Trees.{Tree};

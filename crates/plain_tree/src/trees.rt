@@ -4,19 +4,19 @@ ghost use Rattle.std.specs.Option.{option_map};
 ghost use Rattle.std.specs.Str.{bytes_eq};
 ghost use Rattle.tree_model.specs.Nodes.Form.{Reconstructed, Compressed as CompressedForm};
 ghost use Rattle.tree_model.specs.Versions.{Versions, read, read_two};
-ghost use Rattle.plain_tree.specs.Kept.{HasLeaves, HasDifferences, HaveLeaves, HaveDifferences};
+ghost use Rattle.plain_tree.specs.StoredTrees.{HasLeaves, HasDifferences, HaveLeaves, HaveDifferences};
 ghost use Rattle.plain_tree.specs.Trees.{kept_at, HasVersions};
 
-use crate::kept::{Compressed, Kept};
 use crate::numbers::Numbers;
+use crate::stored::{Compressed, StoredTree};
 use std::collections::BTreeMap;
 use tree_key::OutOfMemory;
 
 /// For each name the tree that it stands for.
-pub type Trees<'a> = BTreeMap<&'a [u8], Kept>;
+pub type Trees<'a> = BTreeMap<&'a [u8], StoredTree>;
 
 /// Gives a name a tree, in place of the one that it had.
-pub fn put<'a>(trees: &mut Trees<'a>, name: &'a [u8], kept: Kept) -> Result<(), OutOfMemory>
+pub fn put<'a>(trees: &mut Trees<'a>, name: &'a [u8], kept: StoredTree) -> Result<(), OutOfMemory>
     ensures { OnOk result ((other : List ℕ) → kept_at trees.new other
         ≡ (if bytes_eq other name.now then Some kept else kept_at trees.old other)) }
 {
@@ -25,7 +25,7 @@ pub fn put<'a>(trees: &mut Trees<'a>, name: &'a [u8], kept: Kept) -> Result<(), 
 }
 
 /// The tree of a name.
-pub fn tree_of<'b>(trees: &'b Trees<'_>, name: &[u8]) -> Option<&'b Kept>
+pub fn tree_of<'b>(trees: &'b Trees<'_>, name: &[u8]) -> Option<&'b StoredTree>
     ensures { option_map (λ kept. kept.now) result ≡ kept_at trees.now name.now }
 {
     trees.get(name)
@@ -37,8 +37,8 @@ pub fn leaves_of<'b>(trees: &'b Trees<'_>, name: &[u8]) -> Option<&'b Numbers>
         HasLeaves depth (option_map (λ leaves. leaves.now) result) (read versions Reconstructed name.now) }
 {
     match tree_of(trees, name) {
-        Some(Kept::Reconstructed(leaves)) => Some(leaves),
-        Some(Kept::Compressed(_)) => None,
+        Some(StoredTree::Reconstructed(leaves)) => Some(leaves),
+        Some(StoredTree::Compressed(_)) => None,
         None => None,
     }
 }
@@ -49,8 +49,8 @@ pub fn compressed_of<'b>(trees: &'b Trees<'_>, name: &[u8]) -> Option<&'b Compre
         HasDifferences depth (option_map (λ tree. tree.now) result) (read versions CompressedForm name.now) }
 {
     match tree_of(trees, name) {
-        Some(Kept::Compressed(tree)) => Some(tree),
-        Some(Kept::Reconstructed(_)) => None,
+        Some(StoredTree::Compressed(tree)) => Some(tree),
+        Some(StoredTree::Reconstructed(_)) => None,
         None => None,
     }
 }

@@ -1,6 +1,6 @@
 //! Sums over boxes that a tree doesn't cut.
 ghost use Rattle.std.specs.Prelude.{◌≡◌, true};
-ghost use Rattle.tree_model.specs.Kept.{whole_sum};
+ghost use Rattle.tree_model.specs.StoredTrees.{whole_sum};
 ghost use Rattle.tree_model.specs.Shapes.{is_key_of};
 ghost use Rattle.tree_model.specs.Trees.{Tree};
 ghost use Rattle.plain_tree.specs.Numbers.{KeepsLeaves};

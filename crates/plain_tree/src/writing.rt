@@ -10,13 +10,13 @@ ghost use Rattle.tree_model.specs.Signatures.{written_name};
 ghost use Rattle.tree_model.specs.Versions.{Versions, written, command_overflows};
 ghost use Rattle.job_data.specs.Checks.{is_within_limits};
 ghost use Rattle.job_data.specs.Data.{data_of};
-ghost use Rattle.plain_tree.specs.Kept.{Matches};
+ghost use Rattle.plain_tree.specs.StoredTrees.{Matches};
 ghost use Rattle.plain_tree.specs.Trees.{HasVersions};
 
 use crate::command_error::CommandError;
-use crate::kept::Kept;
 use crate::lines::{add_inner, add_tree};
 use crate::operations::{add, compress, inner, multiply, project, reconstruct, refine};
+use crate::stored::StoredTree;
 use crate::trees::{Trees, both_compressed, both_leaves, compressed_of, leaves_of, tree_of};
 use job_data::Command;
 use job_words::Name;
@@ -30,14 +30,14 @@ fn refined(
     trees: &Trees<'_>,
     name: &[u8],
     level: u8,
-) -> Result<Option<Kept>, OutOfMemory>
+) -> Result<Option<StoredTree>, OutOfMemory>
     requires level { level ≤ depth }
     requires versions { (versions : Versions) × HasVersions depth versions trees.now }
     ensures { IfOk result (λ kept. (versions : Versions) → HasVersions depth versions trees.now →
         Matches depth kept (written depth versions (Refine name.now level))) }
 {
     match leaves_of(trees, name) {
-        Some(leaves) => Ok(Some(Kept::Reconstructed(refine(alloc, leaves, level)?))),
+        Some(leaves) => Ok(Some(StoredTree::Reconstructed(refine(alloc, leaves, level)?))),
         None => Ok(None),
     }
 }
@@ -48,13 +48,13 @@ fn compressed(
     depth: u8,
     trees: &Trees<'_>,
     name: &[u8],
-) -> Result<Option<Kept>, OutOfMemory>
+) -> Result<Option<StoredTree>, OutOfMemory>
     requires { (versions : Versions) × HasVersions depth versions trees.now }
     ensures { IfOk result (λ kept. (versions : Versions) → HasVersions depth versions trees.now →
         Matches depth kept (written depth versions (Compress name.now))) }
 {
     match leaves_of(trees, name) {
-        Some(leaves) => Ok(Some(Kept::Compressed(compress(alloc, leaves)?))),
+        Some(leaves) => Ok(Some(StoredTree::Compressed(compress(alloc, leaves)?))),
         None => Ok(None),
     }
 }
@@ -65,13 +65,13 @@ fn reconstructed(
     depth: u8,
     trees: &Trees<'_>,
     name: &[u8],
-) -> Result<Option<Kept>, OutOfMemory>
+) -> Result<Option<StoredTree>, OutOfMemory>
     requires { (versions : Versions) × HasVersions depth versions trees.now }
     ensures { IfOk result (λ kept. (versions : Versions) → HasVersions depth versions trees.now →
         Matches depth kept (written depth versions (Reconstruct name.now))) }
 {
     match compressed_of(trees, name) {
-        Some(tree) => Ok(Some(Kept::Reconstructed(reconstruct(alloc, tree)?))),
+        Some(tree) => Ok(Some(StoredTree::Reconstructed(reconstruct(alloc, tree)?))),
         None => Ok(None),
     }
 }
@@ -83,7 +83,7 @@ fn multiplied(
     trees: &Trees<'_>,
     left: &[u8],
     right: &[u8],
-) -> Result<Option<Kept>, CommandError>
+) -> Result<Option<StoredTree>, CommandError>
     requires { (versions : Versions) × HasVersions depth versions trees.now }
     ensures kept { IfOk result (λ kept. (versions : Versions) → HasVersions depth versions trees.now →
         (name : List ℕ) → Matches depth kept (written depth versions (Mul name left.now right.now))) }
@@ -91,7 +91,9 @@ fn multiplied(
         (name : List ℕ) → command_overflows depth versions (Mul name left.now right.now) ≡ true }
 {
     match both_leaves(trees, left, right) {
-        Some((left, right)) => Ok(Some(Kept::Reconstructed(multiply(alloc, depth, left, right)?))),
+        Some((left, right)) => Ok(Some(StoredTree::Reconstructed(multiply(
+            alloc, depth, left, right,
+        )?))),
         None => Ok(None),
     }
 }
@@ -105,7 +107,7 @@ fn added(
     left: &[u8],
     right_factor: i64,
     right: &[u8],
-) -> Result<Option<Kept>, CommandError>
+) -> Result<Option<StoredTree>, CommandError>
     requires depth { depth ≤ max_depth }
     requires left_factor { unsigned_abs left_factor ≤ 2 ^ 20 }
     requires right_factor { unsigned_abs right_factor ≤ 2 ^ 20 }
@@ -118,7 +120,7 @@ fn added(
     match both_compressed(trees, left, right) {
         Some((left, right)) => {
             let sum = add(alloc, depth, left_factor, left, right_factor, right)?;
-            Ok(Some(Kept::Compressed(sum)))
+            Ok(Some(StoredTree::Compressed(sum)))
         }
         None => Ok(None),
     }
@@ -166,11 +168,11 @@ pub struct Written<'a> {
     pub name: Option<&'a [u8]>,
     /// The tree. None where the command writes none, also where a tree that it reads isn't there in the form that it
     /// needs.
-    pub tree: Option<Kept>,
+    pub tree: Option<StoredTree>,
 }
 
 // What a command wrote that writes a tree of this name.
-fn named<'a>(name: &'a Name, tree: Option<Kept>) -> Written<'a>
+fn named<'a>(name: &'a Name, tree: Option<StoredTree>) -> Written<'a>
     ensures name { option_map (λ name. name.now) result.name ≡ Some (bytes_of name.now) }
     ensures tree { result.tree ≡ tree }
 {
@@ -212,7 +214,7 @@ pub fn carry_out<'a>(
             tolerance,
         } => {
             let leaves = project(alloc, depth, *function, *level, *tolerance)?;
-            Ok(named(name, Some(Kept::Reconstructed(leaves))))
+            Ok(named(name, Some(StoredTree::Reconstructed(leaves))))
         }
         Command::Refine { name, level } => {
             let tree = refined(alloc, depth, trees, name.bytes(), *level)?;

@@ -15,4 +15,4 @@ pub mod Commands
 pub mod Signatures
 pub mod Versions
 pub mod Jobs
-pub mod Kept
+pub mod StoredTrees

@@ -4,14 +4,10 @@
 #![tactic(auto)]
 
 mod examples;
-mod kept;
 mod laws;
 mod operations;
+mod stored;
 
-pub use kept::{
-    kept_numbers_are_in_order, products_are_of_values, projections_have_values,
-    values_show_on_leaves, whole_boxes_have_one_value,
-};
 pub use laws::{
     leaves_are_constant, leaves_follow, projections_are_trees, rows_follow,
     values_stay_within_limits,
@@ -19,4 +15,8 @@ pub use laws::{
 pub use operations::{
     overflows_show_on_leaves, products_are_trees, products_on_leaves, refined_trees_are_trees,
     sums_are_linear, trees_are_constant_below_leaves, weighted_sums_are_trees,
+};
+pub use stored::{
+    kept_numbers_are_in_order, products_are_of_values, projections_have_values,
+    values_show_on_leaves, whole_boxes_have_one_value,
 };

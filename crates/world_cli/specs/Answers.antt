@@ -94,13 +94,13 @@ pub record IsAnswered (words : List (List ℕ)) (with_status : ℕ) (left before
   pub status : (answer_to request bytes).status ≡ with_status
   pub written : Appends before now (answer_to request bytes).text
 
--- the sink took a front of some text
+-- the sink took a prefix of some text
 pub record IsCut (text : List ℕ) (before now : Option (List ℕ)) : Type 0 where
   pub count : ℕ
   pub within : count ≤ length text
   pub written : Appends before now (take count text)
 
--- the sink took a front of the answer to what the words ask for, on the bytes that the source told
+-- the sink took a prefix of the answer to what the words ask for, on the bytes that the source told
 pub record IsCutAnswer (words : List (List ℕ)) (left before now : Option (List ℕ)) : Type 0 where
   pub request : Request
   pub asked : request_of words ≡ Some request
@@ -115,7 +115,7 @@ pub record Answers (request : Request) (left : Option (List ℕ)) (with_status :
   pub status : (answer_to request bytes).status ≡ with_status
   pub text : (answer_to request bytes).text ≡ with_text
 
--- a text was written whole, with its status; or a front of it, where the sink's count rose
+-- a text was written whole, with its status; or a prefix of it, where the sink's count rose
 abbrev pub IsFinished : (result with_status : ℕ) (text : List ℕ) (before now : Option (List ℕ)) (faults_before faults_now : ℕ) → Type 0
 IsFinished result with_status text before now faults_before faults_now =
     ((result ≡ with_status) × Appends before now text) ⊎ ((result ≡ write_fault) × (Rose faults_before faults_now × IsCut text before now))

@@ -44,7 +44,7 @@ fn finish<K: Sink>(sink: &mut K, status: Status, text: &[u8]) -> u8
 /// - 3: a command of the job overflows; the text before it was written, and a line that names it.
 /// - 4: there was no memory; nothing was written.
 /// - 5: the source failed; nothing was written.
-/// - 6: the sink failed; a front of what was to be written was written.
+/// - 6: the sink failed; a prefix of what was to be written was written.
 pub fn world_main<S: Source, K: Sink>(
     alloc: Global,
     words: &[String],

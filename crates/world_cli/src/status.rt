@@ -15,6 +15,6 @@ pub enum Status {
     OutOfMemory = 4,
     /// A read failed; nothing was written.
     ReadFault = 5,
-    /// A write failed; a front of the text was written.
+    /// A write failed; a prefix of the text was written.
     WriteFault = 6,
 }

@@ -1,3 +1,4 @@
+//! The program over sources and sinks in memory.
 ghost use Rattle.std.specs.Prelude.{◌≡◌, []};
 ghost use Rattle.outside.specs.Causes.{Rose};
 
@@ -150,7 +151,7 @@ fn forms_of_a_ramp(rt: HostRuntime) -> Result<(), Fail> {
 #[test]
 fn overflows_and_limits(rt: HostRuntime) -> Result<(), Fail> {
     let cases: [(&[u8], u8, &[u8]); 7] = [
-        // The text before the first command that overflows is kept, and nothing of those behind it.
+        // The text before the first command that overflows is kept, and nothing of those after it.
         (
             b"job 1 depth 0\nproject f const 16777216 level 0 tol 0\nprint f\ncompress f\nadd h = 2 f + 0 f\nadd k = 3 f + 0 f\nprint h\n",
             3,

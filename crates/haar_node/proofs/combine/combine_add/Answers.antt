@@ -1,6 +1,6 @@
 use Rattle.std.proofs.Common.{refl, ap, ◌∙◌, arith}
 use Rattle.std.specs.Int.RustNames.{unsigned_abs}
-use Rattle.haar_node.proofs.WeightedSums.{exact}
+use Rattle.haar_node.proofs.WeightedSumLemmas.{exact}
 use Rattle.haar_node.proofs.combine.combine_add.Goals as goal
 
 pub overflow_add-sum : goal.overflow_add-sum

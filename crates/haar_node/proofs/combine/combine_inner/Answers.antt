@@ -3,8 +3,8 @@ use Rattle.std.specs.Int.{w64, w128}
 use Rattle.std.specs.Int.RustNames.{FitsSigned, unsigned_abs}
 use Rattle.std.proofs.lemmas.Int.{ints, to_z-of_z}
 use Rattle.tree_model.specs.Nodes.{max_number}
-use Rattle.tree_model.proofs.Integers.{product-within}
-use Rattle.haar_node.proofs.Stored.{stored, stored-product, stored-sum}
+use Rattle.tree_model.proofs.IntegerLemmas.{product_within}
+use Rattle.haar_node.proofs.StoredNumberLemmas.{stored, stored_product, stored_sum}
 use Rattle.haar_node.proofs.combine.combine_inner.Goals as goal
 
 -- the product of the differences, and twice the sum of what the children add, as the code has them
@@ -21,9 +21,9 @@ record IsExact (d e left right : ℤ) : Type 0 where
 
 exact : (d e left right : ℤ) → unsigned_abs d ≤ max_number → unsigned_abs e ≤ max_number → unsigned_abs left ≤ 2 ^ 90 → unsigned_abs right ≤ 2 ^ 90 → IsExact d e left right
 exact d e left right small_d small_e small_left small_right =
-    let within = product-within d e (2 ^ 41) (2 ^ 41) small_d small_e in
-    let product = stored-product w128 d e (omega (arith, ints)) (omega (arith, ints)) (omega (arith, ints)) in
-    let both = stored-sum w128 left right (omega (arith, ints)) (omega (arith, ints)) (omega (arith, ints)) in
+    let within = product_within d e (2 ^ 41) (2 ^ 41) small_d small_e in
+    let product = stored_product w128 d e (omega (arith, ints)) (omega (arith, ints)) (omega (arith, ints)) in
+    let both = stored_sum w128 left right (omega (arith, ints)) (omega (arith, ints)) (omega (arith, ints)) in
     let twice_fits : FitsSigned w128 (pos 2 *ℤ (left +ℤ right)) = omega (arith, ints) in
     let children : children_stored left right ≡ pos 2 *ℤ (left +ℤ right) = rw both (to_z-of_z w128 (pos 2 *ℤ (left +ℤ right)) twice_fits) in
     let fits : FitsSigned w128 (d *ℤ e +ℤ pos 2 *ℤ (left +ℤ right)) = omega (arith, ints) in

@@ -4,17 +4,17 @@ use Rattle.std.proofs.lemmas.Int.{ints, to_z-of_z, quot_is}
 use Rattle.std.proofs.Math.Nat.{div-le_of_le-mul}
 use Rattle.tree_model.specs.Functions.{max_value}
 use Rattle.haar_node.specs.Combinations.{IsLeafSum, leaf_value}
-use Rattle.tree_model.proofs.Integers.{product-within}
-use Rattle.haar_node.proofs.Stored.{stored}
+use Rattle.tree_model.proofs.IntegerLemmas.{product_within}
+use Rattle.haar_node.proofs.StoredNumberLemmas.{stored}
 use Rattle.haar_node.proofs.combine.combine_mul.Goals as goal
 
-abs-neg : (n : ℕ) → unsigned_abs (neg_ℤ (pos n)) ≡ n
-abs-neg zero = refl
-abs-neg (suc n) = refl
+abs_neg : (n : ℕ) → unsigned_abs (neg_ℤ (pos n)) ≡ n
+abs_neg zero = refl
+abs_neg (suc n) = refl
 
-abs-quotient : (z : ℤ) (n : ℕ) → unsigned_abs (int_div z (pos n)) ≡ unsigned_abs z / n
-abs-quotient (pos m) n = refl
-abs-quotient (negsuc m) n = abs-neg (suc m / n)
+abs_quotient : (z : ℤ) (n : ℕ) → unsigned_abs (int_div z (pos n)) ≡ unsigned_abs z / n
+abs_quotient (pos m) n = refl
+abs_quotient (negsuc m) n = abs_neg (suc m / n)
 
 -- the product of the two values as the code has it
 abbrev value_stored : ℤ → ℤ → ℤ → ℤ
@@ -29,9 +29,9 @@ exact : (left right : ℤ) (width : ℕ) (cells : ℤ) → FitsSigned w64 left �
 exact left right width cells fits_left fits_right narrow leaf_left leaf_right same =
     let v = leaf_value left width in
     let u = leaf_value right width in
-    let small_v : unsigned_abs v ≤ max_value = rw (abs-quotient left width) (div-le_of_le-mul width leaf_left.within) in
-    let small_u : unsigned_abs u ≤ max_value = rw (abs-quotient right width) (div-le_of_le-mul width leaf_right.within) in
-    let within = product-within v u (2 ^ 24) (2 ^ 24) small_v small_u in
+    let small_v : unsigned_abs v ≤ max_value = rw (abs_quotient left width) (div-le_of_le-mul width leaf_left.within) in
+    let small_u : unsigned_abs u ≤ max_value = rw (abs_quotient right width) (div-le_of_le-mul width leaf_right.within) in
+    let within = product_within v u (2 ^ 24) (2 ^ 24) small_v small_u in
     let fits_width : FitsSigned w64 (pos width) = omega (arith, ints) in
     let fits_v : FitsSigned w64 v = omega (arith, ints) in
     let fits_u : FitsSigned w64 u = omega (arith, ints) in
@@ -49,7 +49,7 @@ exact_product : (left right : ℤ) (width : ℕ) (cells : ℤ) → width ≤ 2 ^
 exact_product left right width cells narrow same value small =
     let fits_cells : FitsSigned w64 cells = rw same (omega (arith, ints)) in
     let count = (to_z-of_z w64 cells fits_cells ∙ same) in
-    let within = product-within (pos width) (leaf_value left width *ℤ leaf_value right width) (2 ^ 16) (2 ^ 24) narrow small in
+    let within = product_within (pos width) (leaf_value left width *ℤ leaf_value right width) (2 ^ 16) (2 ^ 24) narrow small in
     let fits : FitsSigned w64 (pos width *ℤ (leaf_value left width *ℤ leaf_value right width)) = omega (arith, ints) in
     record { fits = rw (value, count) fits; product = rw (value, count) (to_z-of_z w64 (pos width *ℤ (leaf_value left width *ℤ leaf_value right width)) fits) }
 

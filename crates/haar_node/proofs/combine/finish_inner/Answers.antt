@@ -10,10 +10,10 @@ use Rattle.tree_model.specs.Functions.{max_depth}
 use Rattle.tree_model.specs.Nodes.{max_number}
 use Rattle.tree_model.specs.Trees.{box_sum}
 use Rattle.tree_model.specs.Products.{inner_product, inner_part}
-use Rattle.tree_model.proofs.Integers.{times-cancel, product-within}
-use Rattle.tree_model.proofs.InnerProducts.{product_law}
+use Rattle.tree_model.proofs.IntegerLemmas.{times_cancel, product_within}
+use Rattle.tree_model.proofs.InnerProductLemmas.{product_law}
 use Rattle.haar_node.specs.Combinations.{IsInnerProduct}
-use Rattle.haar_node.proofs.Stored.{stored, stored-product}
+use Rattle.haar_node.proofs.StoredNumberLemmas.{stored, stored_product}
 use Rattle.haar_node.proofs.combine.finish_inner.Goals as goal
 
 -- the product of the sums and the part of the differences, divided, as the code has them
@@ -25,8 +25,8 @@ quotient_stored s t q cells = stored w128 (int_div (stored w128 (whole_stored s 
 
 exact : (s t q : ℤ) (depth : ℕ) (cells : ℤ) → unsigned_abs s ≤ max_number → unsigned_abs t ≤ max_number → unsigned_abs q ≤ 2 ^ 100 → depth ≤ max_depth → int_rem (s *ℤ t +ℤ q) (pos (2 ^ depth)) ≡ pos 0 → cells ≡ pos (2 ^ depth) → pos (2 ^ depth) *ℤ quotient_stored s t q cells ≡ s *ℤ t +ℤ q
 exact s t q depth cells small_s small_t small_q shallow divides same =
-    let within = product-within s t (2 ^ 41) (2 ^ 41) small_s small_t in
-    let product = stored-product w128 s t (omega (arith, ints)) (omega (arith, ints)) (omega (arith, ints)) in
+    let within = product_within s t (2 ^ 41) (2 ^ 41) small_s small_t in
+    let product = stored_product w128 s t (omega (arith, ints)) (omega (arith, ints)) (omega (arith, ints)) in
     let part = to_z-of_z w128 q (omega (arith, ints)) in
     let fits : FitsSigned w128 (s *ℤ t +ℤ q) = omega (arith, ints) in
     let some = pow_pos depth in
@@ -41,7 +41,7 @@ inner : (s t q : ℤ) (depth : ℕ) (answer : ℤ) → pos (2 ^ depth) *ℤ answ
 inner s t q depth answer whole f g tree_f tree_g deep_f deep_g sum other part =
     let same : s *ℤ t +ℤ q ≡ box_sum f root *ℤ box_sum g root +ℤ inner_part f g root = (λ i. sum i *ℤ other i +ℤ part i) in
     let law = product_law f g tree_f tree_g (deep_f ∙ sym deep_g) in
-    times-cancel (2 ^ depth) answer (inner_product f g) (pow_pos depth)
+    times_cancel (2 ^ depth) answer (inner_product f g) (pow_pos depth)
     (whole ∙ same ∙ law ∙ ap (λ d. pos (2 ^ d) *ℤ inner_product f g) deep_f)
 
 pub returns-clause-quotient : goal.returns-clause-quotient

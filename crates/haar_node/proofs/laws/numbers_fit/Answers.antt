@@ -1,4 +1,4 @@
-use Rattle.tree_model.proofs.Bounds.{nodes_fit, sums_fit, inner_parts_fit}
+use Rattle.tree_model.proofs.BoundLemmas.{nodes_fit, sums_fit, inner_parts_fit}
 use Rattle.haar_node.proofs.laws.numbers_fit.Goals as goal
 
 pub returns : goal.returns

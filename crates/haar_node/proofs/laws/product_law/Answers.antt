@@ -1,4 +1,4 @@
-use Rattle.tree_model.proofs.InnerProducts.{product_law}
+use Rattle.tree_model.proofs.InnerProductLemmas.{product_law}
 use Rattle.haar_node.proofs.laws.product_law.Goals as goal
 
 pub returns : goal.returns

@@ -6,7 +6,7 @@ use Rattle.job_lang.specs.Canonical.{command_text, header_words}
 use Rattle.job_words.specs.Lines.{line_of}
 use Rattle.job_data.specs.Data.{data_of}
 use Rattle.job_lang.specs.Reading.{reading_of}
-use Rattle.job_lang.proofs.CanonicalLaws.{reads-back, flat_map-more}
+use Rattle.job_lang.proofs.CanonicalLemmas.{reads_back, flat_map_more}
 use Rattle.job_lang.proofs.canonical.print.Goals as goal
 
 abbrev header_text : ℕ → List ℕ
@@ -26,7 +26,7 @@ loop-command-preserved c =
     c.in_ok-add_command.ensures
     ∙ ap (λ (t : List ℕ). t ++ command_text (data_of c.command-item.result)) c.loop-command.invariant
     ∙ append_assoc (header_text c.args.job.now.depth) before (command_text (data_of c.command-item.result))
-    ∙ ap (λ (t : List ℕ). header_text c.args.job.now.depth ++ t) (sym (flat_map-more data_of items c.loop-command.command-index c.command-item.result c.loop-command-test.true c.command-item.is))
+    ∙ ap (λ (t : List ℕ). header_text c.args.job.now.depth ++ t) (sym (flat_map_more data_of items c.loop-command.command-index c.command-item.result c.loop-command-test.true c.command-item.is))
 
 pub returns-clause-text : goal.returns-clause-text
 returns-clause-text c =
@@ -35,4 +35,4 @@ returns-clause-text c =
     c.into_bytes.ensures ∙ c.loop-command.invariant ∙ ap (λ cs. header_text c.args.job.now.depth ++ flat_map command_text cs) all
 
 pub returns-clause-reads_back : goal.returns-clause-reads_back
-returns-clause-reads_back c = ap reading_of (returns-clause-text c) ∙ reads-back c.args.job.now c.depth.ensures.job
+returns-clause-reads_back c = ap reading_of (returns-clause-text c) ∙ reads_back c.args.job.now c.depth.ensures.job

@@ -1,4 +1,4 @@
-use Rattle.job_lang.proofs.KindLaws.{line_kind, line_said}
+use Rattle.job_lang.proofs.KindLemmas.{line_kind, line_said}
 use Rattle.job_lang.proofs.laws.lowest_kinds_are_answered.Goals as goal
 
 pub returns : goal.returns

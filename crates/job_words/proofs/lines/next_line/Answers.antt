@@ -1,7 +1,7 @@
 use Rattle.std.proofs.Common.{◌≡◌, ◌-◌, ◌+◌, length, take, drop, arith, rules, List, [], ℕ, length-drop, refl, inr, sym, append-nil, ◌∙◌}
 use Rattle.std.proofs.lemmas.List.{drop_all, take_all}
 use Rattle.std.proofs.lemmas.Grind.{common_steps}
-use Rattle.job_words.proofs.LineCuts.{line_at, last_line, cut_at}
+use Rattle.job_words.proofs.LineLemmas.{line_at, last_line, cut_at}
 use Rattle.job_words.proofs.lines.next_line.Goals as goal
 
 -- a slice from a place on is what is left there

@@ -1,6 +1,6 @@
 use Rattle.std.proofs.Common.{ℕ, ◌≤◌, ◌+◌, ◌-◌, List, ◌++◌, vec_len, take, arith, length-append}
 use Rattle.std.proofs.lemmas.List.{length-take}
-use Rattle.outside.proofs.Known.{consumes_more, consumes_kept}
+use Rattle.outside.proofs.KnownByteLemmas.{consumes_more, consumes_kept}
 use Rattle.outside.proofs.reading.read_all.Goals as goal
 
 pub returns-in-Err-clause-gone : goal.returns-in-Err-clause-gone

@@ -1,7 +1,7 @@
 use Rattle.std.proofs.Common.{◌∙◌, ◌≡◌, ◌-◌, ℕ, List, length, take, drop, arith, length-drop}
 use Rattle.std.proofs.Math.Seq.{take-add}
 use Rattle.std.proofs.lemmas.List.{drop-drop, take_all}
-use Rattle.outside.proofs.Known.{appends_more}
+use Rattle.outside.proofs.KnownByteLemmas.{appends_more}
 use Rattle.outside.proofs.writing.write_all.Goals as goal
 
 -- a slice from a place on is what is left there

@@ -3,33 +3,33 @@ use Rattle.tree_model.specs.Jobs.{command_lines}
 use Rattle.tree_model.specs.Versions.{versions_behind}
 use Rattle.job_data.specs.Data.{data_of}
 use Rattle.plain_tree.specs.Trees.{HasVersions}
-use Rattle.plain_tree.proofs.SerialLemmas.{mapped-at, versions-next, lines-next, overflow-later, overflow-here, limits-at, few-before}
+use Rattle.plain_tree.proofs.SerialLemmas.{mapped_at, versions_next, lines_next, overflow_later, overflow_here, limits_at, few_before}
 use Rattle.plain_tree.proofs.jobs.serial.Goals as goal
 
 pub run_command-requires-clause-limits : goal.run_command-requires-clause-limits
 run_command-requires-clause-limits c =
     let xs = c.commands-command-items.result.now in
     let k = c.command-item.result in
-    let is = mapped-at data_of xs c.loop-index.index k c.loop-index-test.true c.command-item.is in
+    let is = mapped_at data_of xs c.loop-index.index k c.loop-index-test.true c.command-item.is in
     let all = rw (← c.depth-depth.ensures.value, ← c.commands-command-items.ensures) at c.depth-depth.ensures.job.commands in
-    limits-at c.depth-depth.result (map data_of xs) c.loop-index.index (data_of k) all is
+    limits_at c.depth-depth.result (map data_of xs) c.loop-index.index (data_of k) all is
 
 pub overflow_cast-command : goal.overflow_cast-command
 overflow_cast-command c =
     let xs = c.commands-command-items.result.now in
     let k = c.command-item.result in
-    let is = mapped-at data_of xs c.loop-index.index k c.loop-index-test.true c.command-item.is in
+    let is = mapped_at data_of xs c.loop-index.index k c.loop-index-test.true c.command-item.is in
     let all = rw (← c.depth-depth.ensures.value, ← c.commands-command-items.ensures) at c.depth-depth.ensures.job.commands in
-    let few = few-before c.depth-depth.result (map data_of xs) c.loop-index.index (data_of k) all is in
+    let few = few_before c.depth-depth.result (map data_of xs) c.loop-index.index (data_of k) all is in
     omega (arith, few)
 
 pub overflow_add-command : goal.overflow_add-command
 overflow_add-command c =
     let xs = c.commands-command-items.result.now in
     let k = c.command-item.result in
-    let is = mapped-at data_of xs c.loop-index.index k c.loop-index-test.true c.command-item.is in
+    let is = mapped_at data_of xs c.loop-index.index k c.loop-index-test.true c.command-item.is in
     let all = rw (← c.depth-depth.ensures.value, ← c.commands-command-items.ensures) at c.depth-depth.ensures.job.commands in
-    let few = few-before c.depth-depth.result (map data_of xs) c.loop-index.index (data_of k) all is in
+    let few = few_before c.depth-depth.result (map data_of xs) c.loop-index.index (data_of k) all is in
     omega (arith, few)
 
 pub returns-in-Err-Overflow-clause-overflow : goal.returns-in-Err-Overflow-clause-overflow
@@ -39,10 +39,10 @@ returns-in-Err-Overflow-clause-overflow c = λ command before same.
     let cs = map data_of xs in
     let i = c.loop-index.index in
     let k = c.command-item.result in
-    let is = mapped-at data_of xs i k c.loop-index-test.true c.command-item.is in
+    let is = mapped_at data_of xs i k c.loop-index-test.true c.command-item.is in
     let over = c.in-Err-Overflow.ensures.over (ap Err c.in-Err-Overflow.field-0-is) (versions_behind depth (take i cs)) c.loop-index.invariant.trees in
     let number : i + 1 ≡ command = cc in
-    sym c.loop-index.invariant.overflow ∙ overflow-here depth cs i (data_of k) is over ∙ ap Some number
+    sym c.loop-index.invariant.overflow ∙ overflow_here depth cs i (data_of k) is over ∙ ap Some number
 
 pub loop-index-preserved : goal.loop-index-preserved
 loop-index-preserved c =
@@ -51,11 +51,11 @@ loop-index-preserved c =
     let cs = map data_of xs in
     let i = c.loop-index.index in
     let k = c.command-item.result in
-    let is = mapped-at data_of xs i k c.loop-index-test.true c.command-item.is in
+    let is = mapped_at data_of xs i k c.loop-index-test.true c.command-item.is in
     let before = versions_behind depth (take i cs) in
     let has = c.loop-index.invariant.trees in
     record {
-      trees = subst (λ versions. HasVersions depth versions c.run_command.new.trees) (sym (versions-next depth cs i (data_of k) is)) (c.in-Ok.ensures.trees before has);
-      text = c.in-Ok.ensures.text before has ∙ ap (λ text. text ++ command_lines before (data_of k)) c.loop-index.invariant.text ∙ sym (lines-next depth cs i (data_of k) is);
-      overflow = sym (overflow-later depth cs i (data_of k) is (c.in-Ok.ensures.within before has)) ∙ c.loop-index.invariant.overflow;
+      trees = subst (λ versions. HasVersions depth versions c.run_command.new.trees) (sym (versions_next depth cs i (data_of k) is)) (c.in-Ok.ensures.trees before has);
+      text = c.in-Ok.ensures.text before has ∙ ap (λ text. text ++ command_lines before (data_of k)) c.loop-index.invariant.text ∙ sym (lines_next depth cs i (data_of k) is);
+      overflow = sym (overflow_later depth cs i (data_of k) is (c.in-Ok.ensures.within before has)) ∙ c.loop-index.invariant.overflow;
     }

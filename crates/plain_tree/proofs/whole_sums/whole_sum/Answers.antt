@@ -1,10 +1,10 @@
 use Rattle.std.proofs.Common.{rules, ◌∙◌}
-use Rattle.plain_tree.proofs.Reading.{passed}
-use Rattle.plain_tree.proofs.WholeSumLemmas.{whole-from-above, whole-from-number}
+use Rattle.plain_tree.proofs.StoredNumberLemmas.{passed}
+use Rattle.plain_tree.proofs.WholeSumLemmas.{whole_from_above, whole_from_number}
 use Rattle.plain_tree.proofs.whole_sums.whole_sum.Goals as goal
 
 pub returns-in-Some : goal.returns-in-Some
-returns-in-Some c = λ t keeps is. rw (passed c.in-Some.sum (search rules)) (whole-from-above t c.args.leaves.now c.args.key c.in-Some.sum keeps (rw c.in-Some.is at is))
+returns-in-Some c = λ t keeps is. rw (passed c.in-Some.sum (search rules)) (whole_from_above t c.args.leaves.now c.args.key c.in-Some.sum keeps (rw c.in-Some.is at is))
 
 pub returns-in-None : goal.returns-in-None
-returns-in-None c = λ t keeps is. c.number_at.ensures ∙ whole-from-number t c.args.leaves.now c.args.key keeps (rw c.in-None.is at is)
+returns-in-None c = λ t keeps is. c.number_at.ensures ∙ whole_from_number t c.args.leaves.now c.args.key keeps (rw c.in-None.is at is)

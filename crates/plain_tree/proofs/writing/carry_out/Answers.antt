@@ -1,7 +1,7 @@
 use Rattle.std.proofs.Common.{rules}
 use Rattle.job_words.specs.NameBytes.{bytes_of}
-use Rattle.plain_tree.proofs.Reading.{passed}
-use Rattle.plain_tree.proofs.Results.{handed-on}
+use Rattle.plain_tree.proofs.StoredNumberLemmas.{passed}
+use Rattle.plain_tree.proofs.ResultLemmas.{handed_on_error}
 use Rattle.plain_tree.specs.declared.command_error.CommandError.TheVariants.{Overflow}
 use Rattle.plain_tree.proofs.writing.carry_out.Goals as goal
 
@@ -13,7 +13,7 @@ returns-in_ok-tree-in-Add-clause-kept c =
 pub returns-in_err-tree-in-Add-clause-over : goal.returns-in_err-tree-in-Add-clause-over
 returns-in_err-tree-in-Add-clause-over c = λ is.
     let over = rw (c.bytes-left.ensures, c.bytes-right.ensures, passed c.in-Add.left_factor (search rules), passed c.in-Add.right_factor (search rules)) at c.added.ensures.over in
-    let same = handed-on c.from_residual-in_err-tree-in-Add.result c.added.result Overflow _ c.from_residual-in_err-tree-in-Add.ensures.1 c.in_err-tree-in-Add.was is in
+    let same = handed_on_error c.from_residual-in_err-tree-in-Add.result c.added.result Overflow _ c.from_residual-in_err-tree-in-Add.ensures.1 c.in_err-tree-in-Add.was is in
     rw c.in-Add.is (λ versions has. over same versions has (bytes_of c.in-Add.name))
 
 pub returns-in_ok-tree-in-Mul-clause-kept : goal.returns-in_ok-tree-in-Mul-clause-kept
@@ -24,5 +24,5 @@ returns-in_ok-tree-in-Mul-clause-kept c =
 pub returns-in_err-tree-in-Mul-clause-over : goal.returns-in_err-tree-in-Mul-clause-over
 returns-in_err-tree-in-Mul-clause-over c = λ is.
     let over = rw (c.bytes-in-Mul.ensures, c.bytes-in-Mul-2.ensures) at c.multiplied.ensures.over in
-    let same = handed-on c.from_residual-in_err-tree-in-Mul.result c.multiplied.result Overflow _ c.from_residual-in_err-tree-in-Mul.ensures.1 c.in_err-tree-in-Mul.was is in
+    let same = handed_on_error c.from_residual-in_err-tree-in-Mul.result c.multiplied.result Overflow _ c.from_residual-in_err-tree-in-Mul.ensures.1 c.in_err-tree-in-Mul.was is in
     rw c.in-Mul.is (λ versions has. over same versions has (bytes_of c.in-Mul.name))

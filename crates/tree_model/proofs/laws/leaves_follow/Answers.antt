@@ -1,5 +1,5 @@
-use Rattle.tree_model.proofs.Projected.{leaves-follow}
+use Rattle.tree_model.proofs.ProjectedTreeLemmas.{leaves_follow_rows}
 use Rattle.tree_model.proofs.laws.leaves_follow.Goals as goal
 
 pub returns : goal.returns
-returns c = leaves-follow
+returns c = leaves_follow_rows

@@ -1,5 +1,5 @@
-use Rattle.tree_model.proofs.Projected.{projected-tree}
+use Rattle.tree_model.proofs.ProjectedTreeLemmas.{projected_tree}
 use Rattle.tree_model.proofs.laws.projections_are_trees.Goals as goal
 
 pub returns : goal.returns
-returns c = projected-tree
+returns c = projected_tree

@@ -1,5 +1,5 @@
-use Rattle.tree_model.proofs.Projected.{rows-follow}
+use Rattle.tree_model.proofs.ProjectedTreeLemmas.{rows_follow_one_another}
 use Rattle.tree_model.proofs.laws.rows_follow.Goals as goal
 
 pub returns : goal.returns
-returns c = rows-follow
+returns c = rows_follow_one_another

@@ -1,5 +1,5 @@
-use Rattle.tree_model.proofs.Combined.{product-tree}
+use Rattle.tree_model.proofs.CombinedTreeLemmas.{product_tree}
 use Rattle.tree_model.proofs.operations.products_are_trees.Goals as goal
 
 pub returns : goal.returns
-returns c = product-tree
+returns c = product_tree

@@ -1,5 +1,5 @@
-use Rattle.tree_model.proofs.CombinedSums.{sums-linear}
+use Rattle.tree_model.proofs.CombinedSumLemmas.{sums_linear}
 use Rattle.tree_model.proofs.operations.sums_are_linear.Goals as goal
 
 pub returns : goal.returns
-returns c = sums-linear
+returns c = sums_linear

@@ -1,13 +1,13 @@
 use Rattle.std.proofs.Common.{rules, refl, ◌+ℤ◌, ◌*ℤ◌}
-use Rattle.plain_tree.proofs.AddingLemmas.{leaf-within, leaf-over, small-sum, within-from, factor-fits}
-use Rattle.plain_tree.proofs.Reading.{passed}
+use Rattle.plain_tree.proofs.AddingLemmas.{leaf_within, leaf_above, small_sum, within_from, factor_fits}
+use Rattle.plain_tree.proofs.StoredNumberLemmas.{passed}
 use Rattle.plain_tree.proofs.adding.Addends.check_leaf.Goals as goal
 
 pub combine_add-requires-clause-left : goal.combine_add-requires-clause-left
-combine_add-requires-clause-left c = rw (passed c.args.sums.left (search rules)) (small-sum c.requires.0 c.args.key c.args.sums.left c.requires.2.kept.first.sound c.requires.2.first_sum)
+combine_add-requires-clause-left c = rw (passed c.args.sums.left (search rules)) (small_sum c.requires.0 c.args.key c.args.sums.left c.requires.2.kept.first.sound c.requires.2.first_sum)
 
 pub combine_add-requires-clause-right : goal.combine_add-requires-clause-right
-combine_add-requires-clause-right c = rw (passed c.args.sums.right (search rules)) (small-sum c.requires.1 c.args.key c.args.sums.right c.requires.2.kept.second.sound c.requires.2.second_sum)
+combine_add-requires-clause-right c = rw (passed c.args.sums.right (search rules)) (small_sum c.requires.1 c.args.key c.args.sums.right c.requires.2.kept.second.sound c.requires.2.second_sum)
 
 pub returns-in-Ok-clause-within : goal.returns-in-Ok-clause-within
 returns-in-Ok-clause-within c = λ f g at none.
@@ -15,9 +15,9 @@ returns-in-Ok-clause-within c = λ f g at none.
     let b = c.args.self.now.right_factor in
     let l = c.args.sums.left in
     let r = c.args.sums.right in
-    let no_more = rw (passed a (factor-fits a c.args.self.now.left_is_small), passed b (factor-fits b c.args.self.now.right_is_small), passed l (search rules), passed r (search rules)) at c.in-Ok.ensures.over.1 in
-    let within = within-from c.width-cells.result (a *ℤ l +ℤ b *ℤ r) no_more in
-    leaf-within a f b g c.args.self.now.left.now c.args.self.now.right.now c.args.self.now.depth c.args.key l r at none (rw c.width-cells.ensures.value at within)
+    let no_more = rw (passed a (factor_fits a c.args.self.now.left_is_small), passed b (factor_fits b c.args.self.now.right_is_small), passed l (search rules), passed r (search rules)) at c.in-Ok.ensures.over.1 in
+    let within = within_from c.width-cells.result (a *ℤ l +ℤ b *ℤ r) no_more in
+    leaf_within a f b g c.args.self.now.left.now c.args.self.now.right.now c.args.self.now.depth c.args.key l r at none (rw c.width-cells.ensures.value at within)
 
 pub returns-in-Err-clause-over : goal.returns-in-Err-clause-over
 returns-in-Err-clause-over c = λ is f g at none.
@@ -25,5 +25,5 @@ returns-in-Err-clause-over c = λ is f g at none.
     let b = c.args.self.now.right_factor in
     let l = c.args.sums.left in
     let r = c.args.sums.right in
-    let over = rw (passed a (factor-fits a c.args.self.now.left_is_small), passed b (factor-fits b c.args.self.now.right_is_small), passed l (search rules), passed r (search rules)) at (c.in-Err.ensures.over.0 refl) in
-    leaf-over a f b g c.args.self.now.left.now c.args.self.now.right.now c.args.self.now.depth c.args.key l r at none (rw c.width-cells.ensures.value at over)
+    let over = rw (passed a (factor_fits a c.args.self.now.left_is_small), passed b (factor_fits b c.args.self.now.right_is_small), passed l (search rules), passed r (search rules)) at (c.in-Err.ensures.over.0 refl) in
+    leaf_above a f b g c.args.self.now.left.now c.args.self.now.right.now c.args.self.now.depth c.args.key l r at none (rw c.width-cells.ensures.value at over)

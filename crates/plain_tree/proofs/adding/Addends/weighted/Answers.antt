@@ -1,4 +1,4 @@
-use Rattle.haar_node.proofs.WeightedSums.{exact}
+use Rattle.haar_node.proofs.WeightedSumLemmas.{exact}
 use Rattle.plain_tree.proofs.adding.Addends.weighted.Goals as goal
 
 pub overflow_add-result : goal.overflow_add-result
