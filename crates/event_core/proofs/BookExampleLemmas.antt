@@ -145,7 +145,7 @@ no_such_lane b = let within : 2 ≤ 1 = (b.named 0 first_main (omega arith)).1 i
 
 -- a book over two ranks has no receipt with other than two rows
 two_rows : (rows : List Row) → IsBook (of_two_ranks (receiver rows ∷ [])) → length rows ≡ 2
-two_rows rows b = b.rows 0 first_main (omega arith) 1 (Enter 1) (omega arith) (record { fence = 1; pass = 2; rows = rows }) refl
+two_rows rows b = b.rows (0) first_main (omega arith) 1 (Enter 1) (omega arith) (record { fence = 1; pass = 2; rows = rows }) refl
 
 pub a_row_too_few : AreNoBook (receiver (nothing_counted ∷ []) ∷ [])
 a_row_too_few b = absurd (omega (arith, two_rows (nothing_counted ∷ []) b))
