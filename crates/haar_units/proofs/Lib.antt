@@ -1,0 +1,16 @@
+pub mod Effects
+pub mod Starts
+pub mod Trees
+pub mod Futures
+pub mod Entries
+pub mod Listing
+pub mod Known
+pub mod Held
+pub mod Sums
+pub mod Weights
+pub mod Counted
+pub mod Single
+pub mod Decided
+pub mod Shapes
+pub mod Kept
+pub mod Beginning

@@ -1,0 +1,12 @@
+pub mod Cut
+pub mod Allowed
+pub mod Listed
+pub mod Course
+pub mod Laws
+pub mod Bins
+pub mod Totals
+pub mod Steps
+pub mod Decided
+pub mod Shapes
+pub mod Runs
+pub mod Example

@@ -1,0 +1,87 @@
+//! What holds of the units of commands on trees: each function's contract is a law, and its body is empty.
+ghost use Rattle.haar_units.specs.Laws.{LabelsFormATree, FuturesAreBroughtUp, UnitsArePlaced, EntriesArePutOnce, EntriesAreErasedOnce, ErasersWait, StagesAreTold, KindsAreOfAFence, UnitsAreKnown};
+ghost use Rattle.std.specs.Prelude.{◌≡◌, [], ◌∷◌};
+ghost use Rattle.haar_units.specs.Totals.{TotalsAreTold, total_of};
+ghost use Rattle.haar_units.specs.Example.{job, course};
+ghost use Rattle.haar_units.specs.Steps.{StepsAreSound, StartsAreSound};
+ghost use Rattle.app_core.specs.Given.{Given};
+ghost use Rattle.app_core.specs.Inputs.{Fits, AreRightInputs};
+ghost use Rattle.app_core.specs.Outlines.{outlines};
+ghost use Rattle.haar_units.specs.Decided.{DecidedStepsAreAllowed};
+ghost use Rattle.haar_units.specs.Shapes.{ShapesAreCourses, MergesAreCourses};
+ghost use Rattle.haar_units.specs.Runs.{RunsAreKept};
+ghost use Rattle.haar_units.specs.Bins.{BinsAreHeld, PlacesAreDifferent, holds};
+
+use app_core::{App, Facts};
+
+/// The labels of the units form a tree, each at its home and with its needs; and each future is brought up by one unit.
+pub fn labels_tell_the_units<A: Facts>()
+    ensures tree { (app : A) → LabelsFormATree (A.may_do app) }
+    ensures futures { (app : A) → FuturesAreBroughtUp (A.may_do app) }
+    ensures places { (app : A) → UnitsArePlaced (A.may_do app) }
+    ensures stages { (app : A) → StagesAreTold (A.may_do app) }
+{}
+
+/// Whatever overflows, one unit puts an entry, and one erases it, after it was put.
+pub fn entries_are_put_and_erased_once<A: Facts>()
+    ensures put { (app : A) → EntriesArePutOnce (A.may_do app) }
+    ensures erased { (app : A) → EntriesAreErasedOnce (A.may_do app) }
+    ensures later { (app : A) → ErasersWait (A.may_do app) }
+{}
+
+/// Of commands before the first that overflows, just the planned units come up, each at its home.
+pub fn units_are_known<A: Facts>()
+    ensures of_fence { (app : A) → KindsAreOfAFence (A.may_do app) }
+    ensures units { (app : A) → UnitsAreKnown (A.may_do app) }
+{}
+
+/// Behind a receipt the bins hold, of the version of a command before the fence and before the first that overflows, just
+/// the entries of the keys that the command visits and doesn't erase, each at its owner.
+pub fn bins_are_held<A: Facts>()
+    ensures bins { (app : A) → BinsAreHeld (A.may_do app) }
+    ensures different { PlacesAreDifferent }
+{}
+
+/// Where all commands before a fence come before the first that overflows, the rows of its receipt sum up to as many tasks as
+/// the commands visit keys, combine and erase, and to as many messages as such steps go from one owner to another.
+pub fn totals_are_told<A: Facts>()
+    ensures { (app : A) → TotalsAreTold (A.may_do app) }
+{}
+
+/// What a label allows keeps the laws of an application on single steps, and the starts of a command keep those on starts.
+pub fn steps_are_sound()
+    ensures steps { StepsAreSound }
+    ensures starts { StartsAreSound }
+{}
+
+/// Where the steps of an application decide for one of the acts, what a label allows is within the plain rules, and just what
+/// is planned where they decide as the course has it.
+pub fn decided_steps_are_allowed<A: App>()
+    ensures { (app : A) → DecidedStepsAreAllowed {U = A.Unit} {G = Given A.Value A.Cell} (A.may_do app) (A.label_of app) (A.is_unit app)
+        (λ unit given. Fits (A.needs_of app unit) (A.reads_of app unit) given)
+        (λ unit given. AreRightInputs (A.right_value app) (A.right_cell app) (A.right_size app)
+        (A.needs_of app unit) (A.reads_of app unit) (A.counts_of app unit) (A.home_of app unit (A.ranks_of app)) given)
+        (λ unit given. outlines (A.label_of app) (A.due_of app) (A.home_of app) (A.kept_at app) (A.ranks_of app) (A.step_of app unit given)) }
+{}
+
+/// The keys of a shape, by their places, are what a command may visit; and what `coarsen` may erase are those below keys of
+/// a kind.
+pub fn shapes_are_courses()
+    ensures shapes { ShapesAreCourses }
+    ensures merges { MergesAreCourses }
+{}
+
+/// Whatever overflows, every run keeps the laws on lists of events that speak of labels, futures and entries.
+pub fn runs_are_kept<A: Facts>()
+    ensures { (app : A) → RunsAreKept (A.may_do app) }
+{}
+
+/// The totals and the entries of a small job, worked out by hand: 4 tasks and 2 messages of `project`, 6 and 3 of `coarsen`,
+/// 3 and 2 of `size`; and the root is left.
+pub fn totals_of_a_small_job()
+    ensures first_fence { total_of job course 4 1 ≡ (5, 10) }
+    ensures end { total_of job course 4 2 ≡ (7, 13) }
+    ensures projected { holds job course 4 0 1 ≡ 2 ∷ 1 ∷ [] }
+    ensures coarsened { holds job course 4 0 2 ≡ 1 ∷ [] }
+    ensures elsewhere { holds job course 4 1 2 ≡ [] }
+{}
