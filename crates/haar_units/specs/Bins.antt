@@ -6,20 +6,20 @@ use Rattle.event_lists.specs.declared.receipt.Receipt.{Receipt}
 use Rattle.event_lists.specs.declared.mark.Mark.{Mark}
 use Rattle.event_laws.specs.Follows.{TaskEffects, IsRun}
 use Rattle.event_laws.specs.Held.{HasReceipt, IsBefore, BinsHold, AreDifferent}
-use Rattle.haar_units.specs.Cut.{Word, Job, word_at, kinds, program, puts_down, puts_up}
-use Rattle.haar_units.specs.Course.{Course, IsCourse, IsExact}
-use Rattle.haar_units.specs.Laws.{IsWithin}
+use Rattle.haar_units.specs.Cut.{Operation, DistributedJob, operation_at, kinds, program, puts_down, puts_up}
+use Rattle.haar_units.specs.Traversals.{Traversal, IsTraversal, MayIsPlanned}
+use Rattle.haar_units.specs.Laws.{MayIsAllowed}
 
-abbrev pub writes : Word → Bool
+abbrev pub writes : Operation → Bool
 writes word = puts_down word || puts_up word
 
-abbrev pub writer_if : ℕ → Option Word → Option ℕ
+abbrev pub writer_if : ℕ → Option Operation → Option ℕ
 writer_if version None = None
 writer_if version (Some word) = if writes word then Some version else None
 
 -- the command that writes a version: that of the version's number
-abbrev pub writer_of : Job → ℕ → Option ℕ
-writer_of job version = writer_if version (word_at job version)
+abbrev pub writer_of : DistributedJob → ℕ → Option ℕ
+writer_of job version = writer_if version (operation_at job version)
 
 -- the places below a bound that pass a test
 abbrev pub places : (ℕ → Bool) → ℕ → List ℕ
@@ -27,20 +27,20 @@ places test zero = []
 places test (suc place) = if test place then place ∷ places test place else places test place
 
 -- whether an entry of a version lies on a rank behind the version's command
-abbrev pub is_held : Job → Course → ℕ → ℕ → ℕ → Bool
-is_held job course rank version place = course.visits version place && (not (course.erases version place) && (job.owner place == rank))
+abbrev pub is_held : DistributedJob → Traversal → ℕ → ℕ → ℕ → Bool
+is_held job traversal rank version place = traversal.visits version place && (not (traversal.erases version place) && (job.owner place == rank))
 
-abbrev pub holds : Job → Course → ℕ → ℕ → ℕ → List ℕ
-holds job course bound rank version = places (is_held job course rank version) bound
+abbrev pub holds : DistributedJob → Traversal → ℕ → ℕ → ℕ → List ℕ
+holds job traversal bound rank version = places (is_held job traversal rank version) bound
 
 -- of the version that a command writes, whatever the other commands do
 abbrev pub BinsAreHeld : (Label → List Outline → Type 0) → Type 0
 BinsAreHeld may =
-    (job : Job) → IsWithin job may → (course : Course) (bound : ℕ) → job.ranks ≤ bound → 2 ≤ bound
-    → (version command : ℕ) → writer_of job version ≡ Some command → IsCourse job course bound command → IsExact job course may command
+    (job : DistributedJob) → MayIsAllowed job may → (traversal : Traversal) (bound : ℕ) → job.ranks ≤ bound → 2 ≤ bound
+    → (version command : ℕ) → writer_of job version ≡ Some command → IsTraversal job traversal bound command → MayIsPlanned job traversal may command
     → (workers : ℕ) (task_effects : TaskEffects) (log before : List Mark) (x : Mark) (r : Receipt) → IsRun job.ranks workers (program job) may task_effects log → HasReceipt log before x r
     → IsBefore (kinds job) command r.fence
-    → BinsHold job.ranks (holds job course bound) version before × BinsHold job.ranks (holds job course bound) version log
+    → BinsHold job.ranks (holds job traversal bound) version before × BinsHold job.ranks (holds job traversal bound) version log
 
 abbrev pub PlacesAreDifferent : Type 0
-PlacesAreDifferent = (job : Job) (course : Course) (bound rank version : ℕ) → AreDifferent (holds job course bound rank version)
+PlacesAreDifferent = (job : DistributedJob) (traversal : Traversal) (bound rank version : ℕ) → AreDifferent (holds job traversal bound rank version)

@@ -1,23 +1,23 @@
 //! What holds of the units of commands on trees: each function's contract is a law, and its body is empty.
-ghost use Rattle.haar_units.specs.Laws.{LabelsFormATree, FuturesAreBroughtUp, UnitsArePlaced, EntriesArePutOnce, EntriesAreErasedOnce, ErasersWait, StagesAreTold, KindsAreOfAFence, UnitsAreKnown};
+ghost use Rattle.haar_units.specs.Laws.{LabelsFormATree, FuturesHaveOneCreator, UnitsArePlaced, EntriesArePutOnce, EntriesAreErasedOnce, ErasersWait, StagesAreTold, KindsAreOfAFence, UnitsAreKnown};
 ghost use Rattle.std.specs.Prelude.{◌≡◌, [], ◌∷◌};
-ghost use Rattle.haar_units.specs.Totals.{TotalsAreTold, total_of};
-ghost use Rattle.haar_units.specs.Example.{job, course};
-ghost use Rattle.haar_units.specs.Steps.{StepsAreSound, StartsAreSound};
+ghost use Rattle.haar_units.specs.Totals.{ReceiptsCountTheTotals, total_of};
+ghost use Rattle.haar_units.specs.Example.{job, traversal};
+ghost use Rattle.haar_units.specs.StepLaws.{StepsKeepTheLaws, StartsKeepTheLaws};
 ghost use Rattle.app_core.specs.Given.{Given};
 ghost use Rattle.app_core.specs.Inputs.{Fits, AreRightInputs};
 ghost use Rattle.app_core.specs.Outlines.{outlines};
-ghost use Rattle.haar_units.specs.Decided.{DecidedStepsAreAllowed};
-ghost use Rattle.haar_units.specs.Shapes.{ShapesAreCourses, MergesAreCourses};
-ghost use Rattle.haar_units.specs.Runs.{RunsAreKept};
+ghost use Rattle.haar_units.specs.Decisions.{DecidedStepsAreAllowed};
+ghost use Rattle.haar_units.specs.Places.{ShapesAreTraversals, MergesAreTraversals};
+ghost use Rattle.haar_units.specs.ListLaws.{RunsKeepTheLaws};
 ghost use Rattle.haar_units.specs.Bins.{BinsAreHeld, PlacesAreDifferent, holds};
 
 use app_core::{App, Facts};
 
 /// The labels of the units form a tree, each at its home and with its needs; and each future is brought up by one unit.
-pub fn labels_tell_the_units<A: Facts>()
+pub fn labels_determine_units<A: Facts>()
     ensures tree { (app : A) → LabelsFormATree (A.may_do app) }
-    ensures futures { (app : A) → FuturesAreBroughtUp (A.may_do app) }
+    ensures futures { (app : A) → FuturesHaveOneCreator (A.may_do app) }
     ensures places { (app : A) → UnitsArePlaced (A.may_do app) }
     ensures stages { (app : A) → StagesAreTold (A.may_do app) }
 {}
@@ -44,14 +44,14 @@ pub fn bins_are_held<A: Facts>()
 
 /// Where all commands before a fence come before the first that overflows, the rows of its receipt sum up to as many tasks as
 /// the commands visit keys, combine and erase, and to as many messages as such steps go from one owner to another.
-pub fn totals_are_told<A: Facts>()
-    ensures { (app : A) → TotalsAreTold (A.may_do app) }
+pub fn receipts_count_the_totals<A: Facts>()
+    ensures { (app : A) → ReceiptsCountTheTotals (A.may_do app) }
 {}
 
 /// What a label allows keeps the laws of an application on single steps, and the starts of a command keep those on starts.
-pub fn steps_are_sound()
-    ensures steps { StepsAreSound }
-    ensures starts { StartsAreSound }
+pub fn steps_keep_the_laws()
+    ensures steps { StepsKeepTheLaws }
+    ensures starts { StartsKeepTheLaws }
 {}
 
 /// Where the steps of an application decide for one of the acts, what a label allows is within the plain rules, and just what
@@ -66,22 +66,22 @@ pub fn decided_steps_are_allowed<A: App>()
 
 /// The keys of a shape, by their places, are what a command may visit; and what `coarsen` may erase are those below keys of
 /// a kind.
-pub fn shapes_are_courses()
-    ensures shapes { ShapesAreCourses }
-    ensures merges { MergesAreCourses }
+pub fn shapes_are_traversals()
+    ensures shapes { ShapesAreTraversals }
+    ensures merges { MergesAreTraversals }
 {}
 
 /// Whatever overflows, every run keeps the laws on lists of events that speak of labels, futures and entries.
-pub fn runs_are_kept<A: Facts>()
-    ensures { (app : A) → RunsAreKept (A.may_do app) }
+pub fn runs_keep_the_laws<A: Facts>()
+    ensures { (app : A) → RunsKeepTheLaws (A.may_do app) }
 {}
 
 /// The totals and the entries of a small job, worked out by hand: 4 tasks and 2 messages of `project`, 6 and 3 of `coarsen`,
 /// 3 and 2 of `size`; and the root is left.
 pub fn totals_of_a_small_job()
-    ensures first_fence { total_of job course 4 1 ≡ (5, 10) }
-    ensures end { total_of job course 4 2 ≡ (7, 13) }
-    ensures projected { holds job course 4 0 1 ≡ 2 ∷ 1 ∷ [] }
-    ensures coarsened { holds job course 4 0 2 ≡ 1 ∷ [] }
-    ensures elsewhere { holds job course 4 1 2 ≡ [] }
+    ensures first_fence { total_of job traversal 4 1 ≡ (5, 10) }
+    ensures end { total_of job traversal 4 2 ≡ (7, 13) }
+    ensures projected { holds job traversal 4 0 1 ≡ 2 ∷ 1 ∷ [] }
+    ensures coarsened { holds job traversal 4 0 2 ≡ 1 ∷ [] }
+    ensures elsewhere { holds job traversal 4 1 2 ≡ [] }
 {}

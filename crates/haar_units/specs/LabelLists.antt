@@ -1,0 +1,19 @@
+-- The labels that pass a test, as a list.
+use Rattle.std.specs.Prelude.{ℕ, zero, suc, Bool, if◌then◌else◌, List, [], ◌∷◌, ◌++◌}
+use Rattle.app_core.specs.declared.label.Label.{Label}
+use Rattle.haar_units.specs.Cut.{label}
+
+-- of a command and a part, those of the first so many places
+abbrev pub labels_of_part : (Label → Bool) → ℕ → ℕ → ℕ → List Label
+labels_of_part test command part zero = []
+labels_of_part test command part (suc place) = if test (label command part place) then label command part place ∷ labels_of_part test command part place else labels_of_part test command part place
+
+-- of a command, those of the first so many parts
+abbrev pub labels_of_command : (Label → Bool) → ℕ → ℕ → ℕ → List Label
+labels_of_command test command zero places = []
+labels_of_command test command (suc part) places = labels_of_part test command part places ++ labels_of_command test command part places
+
+-- those of the first so many commands
+abbrev pub labels_that_pass : (Label → Bool) → ℕ → ℕ → ℕ → List Label
+labels_that_pass test zero parts places = []
+labels_that_pass test (suc command) parts places = labels_of_command test command parts places ++ labels_that_pass test command parts places
