@@ -20,8 +20,10 @@ use Rattle.event_laws.specs.Held.{entry as named}
 use Rattle.event_laws.specs.Stages.{UnitHas}
 use Rattle.event_laws.proofs.BringerLemmas.{effects_apart}
 use Rattle.event_laws.proofs.UnitLemmas.{units_lie}
-use Rattle.haar_units.specs.Cut.{Operation, DistributedJob, operation_at, kinds, program, is_on_trees, is_coarsen, puts_down, puts_up, label, erase_unit, entry, home, parent}
-use Rattle.haar_units.specs.Cut.Operation.{Coarsen, Size, Fence}
+use Rattle.haar_units.specs.Jobs.{Operation, DistributedJob, operation_at, kinds, is_on_trees, is_coarsen, puts_down, puts_up}
+use Rattle.haar_units.specs.Units.{label, erase_unit, entry, home, parent}
+use Rattle.haar_units.specs.Starts.{program}
+use Rattle.haar_units.specs.Jobs.Operation.{Coarsen, Size, Fence}
 use Rattle.haar_units.specs.Actions.{Action, part_of, puts_first, rest_of}
 use Rattle.haar_units.specs.Actions.Action.{Stop, Descend, Combine, Merge, Erase}
 use Rattle.haar_units.specs.Traversals.{Traversal, IsTraversal, MayIsPlanned, action_of, plan, is_spawned_of, units}

@@ -2,7 +2,7 @@
 use Rattle.std.proofs.Common.{◌≡◌, ℕ, Bool, true, List, sym, ap, ◌∙◌, subst}
 use Rattle.app_core.specs.declared.label.Label.{Label}
 use Rattle.app_core.specs.declared.outline.Outline.{Outline}
-use Rattle.haar_units.specs.Cut.{Operation, DistributedJob}
+use Rattle.haar_units.specs.Jobs.{Operation, DistributedJob}
 use Rattle.haar_units.specs.Actions.{Action, Allowed, outlines_of}
 use Rattle.haar_units.specs.Traversals.{Traversal, plan, plan_if, is_spawned, MayIsPlanned}
 use Rattle.haar_units.specs.Laws.{MayIsAllowed}

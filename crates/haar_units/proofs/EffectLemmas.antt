@@ -4,7 +4,9 @@ use Rattle.std.specs.Prelude.{if◌then◌else◌, Some, None, slice_get}
 use Rattle.app_core.specs.declared.label.Label.{Label}
 use Rattle.app_core.specs.declared.outline.Outline.{Outline}
 use Rattle.app_core.specs.declared.outline.Outline.TheVariants as of
-use Rattle.haar_units.specs.Cut.{Operation, DistributedJob, operation_at, up_unit, erase_unit, label, key_future, count_future, entry, future_home, spawn_down}
+use Rattle.haar_units.specs.Jobs.{Operation, DistributedJob, operation_at}
+use Rattle.haar_units.specs.Units.{up_unit, erase_unit, label, key_future, count_future, entry, future_home}
+use Rattle.haar_units.specs.Starts.{spawn_down}
 use Rattle.haar_units.specs.Actions.{Action, part_of, fits, puts_first, rest_of, outlines_of, Allowed}
 use Rattle.haar_units.specs.Actions.Action.{Stop, Descend, Combine, Merge, Erase, Count, Sum}
 

@@ -7,8 +7,9 @@ use Rattle.app_core.specs.declared.label.CellName.{CellName}
 use Rattle.app_core.specs.declared.outline.Outline.{Outline}
 use Rattle.app_core.specs.declared.outline.Outline.TheVariants as of
 use Rattle.event_laws.specs.Trees.{unit_of, SpawnsNot, IsOnce, same, above, GivesAfterPut, ErasesWait}
-use Rattle.haar_units.specs.Cut.{Operation, DistributedJob, operation_at, is_coarsen, puts_up, label, down_unit, up_unit, erase_unit, key_future, entry, parent, needs, home}
-use Rattle.haar_units.specs.Cut.Operation.{Project, Refine, Coarsen, Reconstruct, Add, Mul}
+use Rattle.haar_units.specs.Jobs.{Operation, DistributedJob, operation_at, is_coarsen, puts_up}
+use Rattle.haar_units.specs.Units.{label, down_unit, up_unit, erase_unit, key_future, entry, parent, needs, home}
+use Rattle.haar_units.specs.Jobs.Operation.{Project, Refine, Coarsen, Reconstruct, Add, Mul}
 use Rattle.haar_units.specs.Actions.{Action, part_of, fits, puts_first, rest_of, outlines_of, Allowed}
 use Rattle.haar_units.specs.Actions.Action.{Stop, Descend, Combine, Merge, Erase, Count, Sum}
 use Rattle.haar_units.specs.Laws.{MayIsAllowed}

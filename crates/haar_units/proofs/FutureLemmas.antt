@@ -7,7 +7,9 @@ use Rattle.app_core.specs.declared.outline.Outline.TheVariants as of
 use Rattle.app_core.specs.Outlines.{named}
 use Rattle.event_laws.specs.Trees.{BringsUp, IsPlaced}
 use Rattle.event_laws.proofs.MemberLemmas.{none_in, contains_cons}
-use Rattle.haar_units.specs.Cut.{DistributedJob, program, label, down_unit, up_unit, erase_unit, key_future, count_future, count_futures, due, needs, home, creator}
+use Rattle.haar_units.specs.Jobs.{DistributedJob}
+use Rattle.haar_units.specs.Units.{label, down_unit, up_unit, erase_unit, key_future, count_future, count_futures, due, needs, home, creator}
+use Rattle.haar_units.specs.Starts.{program}
 use Rattle.haar_units.specs.Actions.{Allowed}
 use Rattle.haar_units.specs.Laws.{MayIsAllowed}
 use Rattle.haar_units.proofs.EffectLemmas.{by_effect}

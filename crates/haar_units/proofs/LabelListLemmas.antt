@@ -5,7 +5,7 @@ use Rattle.std.proofs.lemmas.Bool.{cases_eq}
 use Rattle.app_core.specs.declared.label.Label.{Label}
 use Rattle.event_laws.specs.Apart.{Apart}
 use Rattle.event_laws.proofs.MatchingListLemmas.{Has, Distinct, has_left, has_right, has_parts, distinct_append, contains_has, has_contains}
-use Rattle.haar_units.specs.Cut.{label}
+use Rattle.haar_units.specs.Units.{label}
 use Rattle.haar_units.specs.LabelLists.{labels_of_part, labels_of_command, labels_that_pass}
 
 -- where a label stands

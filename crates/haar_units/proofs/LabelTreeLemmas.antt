@@ -10,7 +10,9 @@ use Rattle.event_laws.specs.Trees.{unit_of, LabelsAreTree}
 use Rattle.event_laws.specs.Stages.{IsStaged, IsOfFence}
 use Rattle.event_laws.specs.Held.{fences_before}
 use Rattle.event_laws.proofs.ProgramLemmas.{start_of_command, one_start, stages}
-use Rattle.haar_units.specs.Cut.{DistributedJob, kinds, program, starts, label, down_unit, up_unit, erase_unit, entry, parent}
+use Rattle.haar_units.specs.Jobs.{DistributedJob, kinds}
+use Rattle.haar_units.specs.Units.{label, down_unit, up_unit, erase_unit, entry, parent}
+use Rattle.haar_units.specs.Starts.{program, starts}
 use Rattle.haar_units.specs.Actions.{Action, puts_first, rest_of, Allowed}
 use Rattle.haar_units.specs.Laws.{MayIsAllowed, stage}
 use Rattle.haar_units.proofs.EffectLemmas.{some_is, none_is, by_rest, offset, first_or_later, by_effect}

@@ -10,8 +10,10 @@ use Rattle.app_core.specs.Outlines.{Touches}
 use Rattle.event_laws.proofs.SourceLemmas.{apart}
 use Rattle.event_laws.proofs.BringerLemmas.{one_bringer, effects_apart}
 use Rattle.event_laws.proofs.EraseLemmas.{erases_put}
-use Rattle.haar_units.specs.Cut.{Operation, DistributedJob, program, is_coarsen, puts_down, puts_up, parent, creator, due, needs, home, entry}
-use Rattle.haar_units.specs.Cut.Operation.{Coarsen}
+use Rattle.haar_units.specs.Jobs.{Operation, DistributedJob, is_coarsen, puts_down, puts_up}
+use Rattle.haar_units.specs.Units.{parent, creator, due, needs, home, entry}
+use Rattle.haar_units.specs.Starts.{program}
+use Rattle.haar_units.specs.Jobs.Operation.{Coarsen}
 use Rattle.haar_units.specs.Actions.{Action, fits, rest_of, outlines_of, Allowed}
 use Rattle.haar_units.specs.Actions.Action.{Stop, Descend, Combine, Merge, Erase, Count, Sum}
 use Rattle.haar_units.specs.Bins.{writes, writer_if, writer_of}

@@ -6,8 +6,8 @@ use Rattle.std.proofs.lemmas.Nat.{pow-add}
 use Rattle.std.proofs.Math.Pow.{pow_mono}
 use Rattle.tree_key.specs.Keys.{Key, root, child, place_of}
 use Rattle.tree_model.specs.Shapes.{IsShape, is_key_of}
-use Rattle.haar_units.specs.Cut.{DistributedJob, operation_at}
-use Rattle.haar_units.specs.Cut.Operation.{Coarsen}
+use Rattle.haar_units.specs.Jobs.{DistributedJob, operation_at}
+use Rattle.haar_units.specs.Jobs.Operation.{Coarsen}
 use Rattle.haar_units.specs.Traversals.{Traversal, IsTraversal}
 use Rattle.haar_units.specs.Places.{key_in, key_at, has_place, ShapesAreTraversals, MergesAreTraversals}
 

@@ -9,8 +9,10 @@ use Rattle.app_core.specs.declared.outline.Outline.{Outline}
 use Rattle.app_core.specs.Outlines.{same_label, has_due, has_need, IsDueOnce, IsNeededOnce, IsNeededNever, NeedingRunsAt, Names}
 use Rattle.event_lists.proofs.FutureLemmas.{same_label_true, same_label_refl}
 use Rattle.event_laws.proofs.MemberLemmas.{none_in, contains_cons}
-use Rattle.haar_units.specs.Cut.{Operation, DistributedJob, operation_at, key_future, count_future, count_futures, count_starts, starts, starts_if, starts_of_operation, spawn_down}
-use Rattle.haar_units.specs.Cut.Operation.{Size, Fence}
+use Rattle.haar_units.specs.Jobs.{Operation, DistributedJob, operation_at}
+use Rattle.haar_units.specs.Units.{key_future, count_future, count_futures}
+use Rattle.haar_units.specs.Starts.{count_starts, starts, starts_if, starts_of_operation, spawn_down}
+use Rattle.haar_units.specs.Jobs.Operation.{Size, Fence}
 use Rattle.haar_units.specs.StepLaws.{KeepsStartLaws}
 use Rattle.haar_units.proofs.StartLemmas.{sum_start}
 

@@ -3,8 +3,10 @@ use Rattle.std.proofs.Common.{◌≡◌, ◌⊎◌, ℕ, zero, suc, ◌+◌, ◌
 use Rattle.std.specs.Prelude.{Option, Some, None, slice_get}
 use Rattle.app_core.specs.declared.outline.Outline.{Outline}
 use Rattle.app_core.specs.declared.outline.Outline.TheVariants as of
-use Rattle.haar_units.specs.Cut.{Operation, DistributedJob, operation_at, is_on_trees, key_future, count_future, count_unit, sum_unit, count_futures, spawn_down, count_starts, starts_of_operation, starts_if, starts}
-use Rattle.haar_units.specs.Cut.Operation.{Size, Fence}
+use Rattle.haar_units.specs.Jobs.{Operation, DistributedJob, operation_at, is_on_trees}
+use Rattle.haar_units.specs.Units.{key_future, count_future, count_unit, sum_unit, count_futures}
+use Rattle.haar_units.specs.Starts.{spawn_down, count_starts, starts_of_operation, starts_if, starts}
+use Rattle.haar_units.specs.Jobs.Operation.{Size, Fence}
 use Rattle.haar_units.proofs.EffectLemmas.{some_is}
 
 abbrev pub count_start : ℕ → ℕ → Outline

@@ -10,7 +10,8 @@ use Rattle.app_core.specs.declared.outline.Outline.TheVariants as of
 use Rattle.app_core.specs.Outlines.{same_label, has_due, has_need, gives, IsDueOnce, IsNeededOnce, IsNeededNever, IsSeenToOnce, GivesOnly, NeedingRunsAt, Names, Touches}
 use Rattle.event_lists.proofs.FutureLemmas.{same_label_true, same_label_refl}
 use Rattle.event_laws.proofs.MemberLemmas.{none_in, contains_cons}
-use Rattle.haar_units.specs.Cut.{DistributedJob, label, down_unit, up_unit, erase_unit, key_future, count_future, entry, due, home}
+use Rattle.haar_units.specs.Jobs.{DistributedJob}
+use Rattle.haar_units.specs.Units.{label, down_unit, up_unit, erase_unit, key_future, count_future, entry, due, home}
 use Rattle.haar_units.specs.Actions.{Action, part_of, puts_first, rest_of, outlines_of, Allowed}
 use Rattle.haar_units.specs.Actions.Action.{Stop, Descend, Combine, Merge, Erase, Count, Sum}
 use Rattle.haar_units.specs.StepLaws.{KeepsStepLaws}

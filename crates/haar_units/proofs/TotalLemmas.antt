@@ -15,8 +15,10 @@ use Rattle.event_laws.specs.Stages.{Comes, started, spawned, AsPlanned, AreUnits
 use Rattle.event_laws.specs.Totals.{sends_of, unit_sends, start_sends}
 use Rattle.event_laws.proofs.SourceLemmas.{apart}
 use Rattle.event_laws.proofs.TotalLemmas.{all_counted}
-use Rattle.haar_units.specs.Cut.{Operation, DistributedJob, operation_at, kind_of, kinds, program, starts, starts_if, is_on_trees, is_size, is_coarsen, label, key_future, entry, future_home, parent, home, home_of, count_starts}
-use Rattle.haar_units.specs.Cut.Operation.{Coarsen, Size, Fence}
+use Rattle.haar_units.specs.Jobs.{Operation, DistributedJob, operation_at, kind_of, kinds, is_on_trees, is_size, is_coarsen}
+use Rattle.haar_units.specs.Units.{label, key_future, entry, future_home, parent, home, home_of}
+use Rattle.haar_units.specs.Starts.{program, starts, starts_if, count_starts}
+use Rattle.haar_units.specs.Jobs.Operation.{Coarsen, Size, Fence}
 use Rattle.haar_units.specs.Actions.{puts_first, rest_of}
 use Rattle.haar_units.specs.Actions.Action.{Stop, Descend, Combine, Merge}
 use Rattle.haar_units.specs.Traversals.{Traversal, IsTraversal, MayIsPlanned, action_of, plan, plan_if, is_spawned, is_spawned_of, is_spawned_if, units}

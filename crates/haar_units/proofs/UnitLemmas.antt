@@ -9,8 +9,10 @@ use Rattle.app_core.specs.declared.outline.CommandKind.TheVariants as is
 use Rattle.event_laws.specs.Trees.{unit_of}
 use Rattle.event_laws.specs.Stages.{Comes, started, spawned, AsPlanned, AreUnits}
 use Rattle.event_laws.proofs.ProgramLemmas.{command_starts}
-use Rattle.haar_units.specs.Cut.{Operation, DistributedJob, operation_at, kind_of, kinds, program, starts, is_on_trees, is_size, is_coarsen, label, down_unit, up_unit, erase_unit, count_unit, sum_unit, key_future, count_future, entry, count_futures, home}
-use Rattle.haar_units.specs.Cut.Operation.{Coarsen, Size, Fence}
+use Rattle.haar_units.specs.Jobs.{Operation, DistributedJob, operation_at, kind_of, kinds, is_on_trees, is_size, is_coarsen}
+use Rattle.haar_units.specs.Units.{label, down_unit, up_unit, erase_unit, count_unit, sum_unit, key_future, count_future, entry, count_futures, home}
+use Rattle.haar_units.specs.Starts.{program, starts}
+use Rattle.haar_units.specs.Jobs.Operation.{Coarsen, Size, Fence}
 use Rattle.haar_units.specs.Actions.{Action, part_of, fits, puts_first, rest_of, outlines_of, Allowed}
 use Rattle.haar_units.specs.Actions.Action.{Stop, Descend, Combine, Merge}
 use Rattle.haar_units.specs.Traversals.{Traversal, IsTraversal, MayIsPlanned, action_of, action_at, plan_if, plan, is_spawned_of, is_spawned_if, is_spawned, units}

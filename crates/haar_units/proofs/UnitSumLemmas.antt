@@ -9,7 +9,7 @@ use Rattle.app_core.specs.declared.outline.CommandKind.TheVariants.{Work, Fence}
 use Rattle.event_laws.specs.Follows.{Doing, Start, Wait, program_from}
 use Rattle.event_laws.specs.Held.{fences_before}
 use Rattle.event_laws.specs.Totals.{sends_of, unit_sends, start_sends}
-use Rattle.haar_units.specs.Cut.{label}
+use Rattle.haar_units.specs.Units.{label}
 use Rattle.haar_units.specs.LabelLists.{labels_of_part, labels_of_command, labels_that_pass}
 use Rattle.haar_units.specs.Totals.{sum_to}
 use Rattle.haar_units.proofs.SumLemmas.{sum_ext, sum_none, sum_front, drop_it, pick}

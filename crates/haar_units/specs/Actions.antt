@@ -3,7 +3,9 @@ use Rattle.std.specs.Prelude.{◌≡◌, ℕ, ◌+◌, ◌*◌, ◌≤◌, Bool,
 use Rattle.app_core.specs.declared.label.Label.{Label}
 use Rattle.app_core.specs.declared.outline.Outline.{Outline}
 use Rattle.app_core.specs.declared.outline.Outline.TheVariants as of
-use Rattle.haar_units.specs.Cut.{Operation, DistributedJob, operation_at, is_on_trees, is_size, is_coarsen, puts_down, puts_up, up_unit, erase_unit, key_future, count_future, entry, future_home, spawn_down}
+use Rattle.haar_units.specs.Jobs.{Operation, DistributedJob, operation_at, is_on_trees, is_size, is_coarsen, puts_down, puts_up}
+use Rattle.haar_units.specs.Units.{up_unit, erase_unit, key_future, count_future, entry, future_home}
+use Rattle.haar_units.specs.Starts.{spawn_down}
 
 -- what a unit does: a down unit gives its due, or hands it to the up unit that it spawns with the units of both children;
 -- an up unit gives its due, and one of `coarsen` may erase both children before

@@ -6,7 +6,8 @@ use Rattle.event_lists.specs.declared.receipt.Receipt.{Receipt}
 use Rattle.event_lists.specs.declared.mark.Mark.{Mark}
 use Rattle.event_laws.specs.Follows.{TaskEffects, IsRun}
 use Rattle.event_laws.specs.Held.{HasReceipt, IsBefore, BinsHold, AreDifferent}
-use Rattle.haar_units.specs.Cut.{Operation, DistributedJob, operation_at, kinds, program, puts_down, puts_up}
+use Rattle.haar_units.specs.Jobs.{Operation, DistributedJob, operation_at, kinds, puts_down, puts_up}
+use Rattle.haar_units.specs.Starts.{program}
 use Rattle.haar_units.specs.Traversals.{Traversal, IsTraversal, MayIsPlanned}
 use Rattle.haar_units.specs.Laws.{MayIsAllowed}
 

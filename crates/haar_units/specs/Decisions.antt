@@ -2,7 +2,7 @@
 use Rattle.std.specs.Prelude.{◌≡◌, ℕ, ◌≤◌, Bool, true, List, Some}
 use Rattle.app_core.specs.declared.label.Label.{Label}
 use Rattle.app_core.specs.declared.outline.Outline.{Outline}
-use Rattle.haar_units.specs.Cut.{Operation, DistributedJob, operation_at}
+use Rattle.haar_units.specs.Jobs.{Operation, DistributedJob, operation_at}
 use Rattle.haar_units.specs.Actions.{Action, Allowed, part_of, fits, outlines_of}
 use Rattle.haar_units.specs.Traversals.{Traversal, action_at, is_spawned, MayIsPlanned}
 use Rattle.haar_units.specs.Laws.{MayIsAllowed}

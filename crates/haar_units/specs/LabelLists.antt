@@ -1,7 +1,7 @@
 -- The labels that pass a test, as a list.
 use Rattle.std.specs.Prelude.{ℕ, zero, suc, Bool, if◌then◌else◌, List, [], ◌∷◌, ◌++◌}
 use Rattle.app_core.specs.declared.label.Label.{Label}
-use Rattle.haar_units.specs.Cut.{label}
+use Rattle.haar_units.specs.Units.{label}
 
 -- of a command and a part, those of the first so many places
 abbrev pub labels_of_part : (Label → Bool) → ℕ → ℕ → ℕ → List Label

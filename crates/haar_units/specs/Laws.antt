@@ -6,7 +6,9 @@ use Rattle.app_core.specs.declared.outline.Outline.TheVariants as of
 use Rattle.event_laws.specs.Trees.{LabelsAreTree, BringsUp, IsOnce, IsPlaced, ErasesWait}
 use Rattle.event_laws.specs.Held.{fences_before}
 use Rattle.event_laws.specs.Stages.{IsStaged, IsOfFence, AreUnits}
-use Rattle.haar_units.specs.Cut.{Operation, DistributedJob, operation_at, is_on_trees, kinds, program, parent, creator, due, needs, home}
+use Rattle.haar_units.specs.Jobs.{Operation, DistributedJob, operation_at, is_on_trees, kinds}
+use Rattle.haar_units.specs.Units.{parent, creator, due, needs, home}
+use Rattle.haar_units.specs.Starts.{program}
 use Rattle.haar_units.specs.Actions.{Allowed}
 use Rattle.haar_units.specs.Traversals.{Traversal, IsTraversal, MayIsPlanned, plan, units}
 

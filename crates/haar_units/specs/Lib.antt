@@ -1,12 +1,14 @@
 pub mod Actions
 pub mod Bins
-pub mod Cut
 pub mod Decisions
 pub mod Example
+pub mod Jobs
 pub mod LabelLists
 pub mod Laws
 pub mod ListLaws
 pub mod Places
+pub mod Starts
 pub mod StepLaws
 pub mod Totals
 pub mod Traversals
+pub mod Units

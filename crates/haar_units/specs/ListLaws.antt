@@ -10,7 +10,8 @@ use Rattle.event_lists.specs.declared.mark.Mark.{Mark}
 use Rattle.event_laws.specs.Follows.{TaskEffects, IsRun}
 use Rattle.event_laws.specs.Trees.{unit_of}
 use Rattle.event_laws.specs.Apart.{spawned, Apart, HasOneBringer, EffectsApart, ErasesPut}
-use Rattle.haar_units.specs.Cut.{DistributedJob, kinds, program, starts}
+use Rattle.haar_units.specs.Jobs.{DistributedJob, kinds}
+use Rattle.haar_units.specs.Starts.{program, starts}
 use Rattle.haar_units.specs.Laws.{MayIsAllowed}
 use Rattle.haar_units.specs.Bins.{writer_of}
 

@@ -2,8 +2,8 @@
 use Rattle.std.specs.Prelude.{◌≡◌, ℕ, zero, suc, ◌+◌, ◌/◌, ◌%◌, ◌^◌, nat_lt, Bool, false, ◌&&◌, ◌==◌, if◌then◌else◌, Some}
 use Rattle.tree_key.specs.Keys.{Key, root, child}
 use Rattle.tree_model.specs.Shapes.{IsShape}
-use Rattle.haar_units.specs.Cut.{DistributedJob, operation_at}
-use Rattle.haar_units.specs.Cut.Operation.{Coarsen}
+use Rattle.haar_units.specs.Jobs.{DistributedJob, operation_at}
+use Rattle.haar_units.specs.Jobs.Operation.{Coarsen}
 use Rattle.haar_units.specs.Traversals.{Traversal, IsTraversal}
 
 -- the key of a place, found in so many steps

@@ -5,7 +5,9 @@ use Rattle.app_core.specs.declared.label.Label.{Label}
 use Rattle.app_core.specs.declared.label.CellName.{CellName}
 use Rattle.app_core.specs.declared.outline.Outline.{Outline}
 use Rattle.app_core.specs.Outlines.{IsDueOnce, IsNeededOnce, IsNeededNever, IsSeenToOnce, GivesOnly, NeedingRunsAt, Names, Touches}
-use Rattle.haar_units.specs.Cut.{DistributedJob, due, home, entry, key_future, starts}
+use Rattle.haar_units.specs.Jobs.{DistributedJob}
+use Rattle.haar_units.specs.Units.{due, home, entry, key_future}
+use Rattle.haar_units.specs.Starts.{starts}
 use Rattle.haar_units.specs.Actions.{Allowed}
 
 -- the due is seen to once and is needed by no unit that is spawned, and nothing else is given; each other future that is

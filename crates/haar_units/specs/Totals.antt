@@ -6,8 +6,9 @@ use Rattle.event_lists.specs.declared.receipt.Receipt.{Receipt}
 use Rattle.event_lists.specs.declared.mark.Mark.{Mark}
 use Rattle.event_laws.specs.Follows.{TaskEffects, IsRun}
 use Rattle.event_laws.specs.Held.{HasReceipt, fences_before, all_told}
-use Rattle.haar_units.specs.Cut.{Operation, DistributedJob, operation_at, kinds, program, is_on_trees}
-use Rattle.haar_units.specs.Cut.Operation.{Size, Fence}
+use Rattle.haar_units.specs.Jobs.{Operation, DistributedJob, operation_at, kinds, is_on_trees}
+use Rattle.haar_units.specs.Starts.{program}
+use Rattle.haar_units.specs.Jobs.Operation.{Size, Fence}
 use Rattle.haar_units.specs.Traversals.{Traversal, IsTraversal, MayIsPlanned}
 use Rattle.haar_units.specs.Laws.{MayIsAllowed}
 

@@ -3,8 +3,8 @@
 use Rattle.std.specs.Prelude.{◌≡◌, ℕ, zero, suc, ◌+◌, ◌*◌, ◌<◌, ◌≤◌, Bool, true, false, ◌&&◌, ◌==◌, nat_lt, if◌then◌else◌, List, [], length, Option, Some, None}
 use Rattle.app_core.specs.declared.label.Label.{Label}
 use Rattle.app_core.specs.declared.outline.Outline.{Outline}
-use Rattle.haar_units.specs.Cut.{Operation, DistributedJob, operation_at, is_on_trees, is_size, is_coarsen}
-use Rattle.haar_units.specs.Cut.Operation.{Coarsen}
+use Rattle.haar_units.specs.Jobs.{Operation, DistributedJob, operation_at, is_on_trees, is_size, is_coarsen}
+use Rattle.haar_units.specs.Jobs.Operation.{Coarsen}
 use Rattle.haar_units.specs.Actions.{Action, outlines_of}
 use Rattle.haar_units.specs.Actions.Action.{Stop, Descend, Combine, Merge, Erase, Count, Sum}
 use Rattle.haar_units.specs.LabelLists.{labels_that_pass}
