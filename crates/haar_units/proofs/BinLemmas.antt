@@ -71,7 +71,7 @@ different test (suc y) = go (test y) (different test y)
     go false d = d
 
 module _ (job : DistributedJob) (may : Label → List Outline → Type 0) (within : MayIsAllowed job may) (traversal : Traversal) (bound : ℕ) (ranks : job.ranks ≤ bound) (two : 2 ≤ bound)
-    (command : ℕ) (word : Operation) (at : operation_at job command ≡ Some word) (writing : writes word ≡ true) (k : IsTraversal job traversal bound command) (exact : MayIsPlanned job traversal may command) where
+    (command : ℕ) (operation : Operation) (at : operation_at job command ≡ Some operation) (writing : writes operation ≡ true) (k : IsTraversal job traversal bound command) (exact : MayIsPlanned job traversal may command) where
   abbrev this : ℕ → Bool
   this c = c == command
 
@@ -99,8 +99,8 @@ module _ (job : DistributedJob) (may : Label → List Outline → Type 0) (withi
   home_is (suc (suc (suc part))) x few = absurd (omega (arith, few))
 
   -- what comes up is among the units
-  here : (part x : ℕ) → is_spawned_of job traversal word command part x ≡ true → Contains us (label command part x)
-  here part x h = is_among job may traversal this bound ranks two traversals within exacts (label command part x) (eq-eqb command command refl) (is_spawned_by job may traversal this bound ranks two traversals within exacts word command part x at h)
+  here : (part x : ℕ) → is_spawned_of job traversal operation command part x ≡ true → Contains us (label command part x)
+  here part x h = is_among job may traversal this bound ranks two traversals within exacts (label command part x) (eq-eqb command command refl) (is_spawned_by job may traversal this bound ranks two traversals within exacts operation command part x at h)
 
   visits_of : (w : Operation) (c part x : ℕ) → part ≤ 1 → is_spawned_of job traversal w c part x ≡ true → traversal.visits c x ≡ true
   visits_of w c zero x few h = (and_parts (is_on_trees w) (traversal.visits c x) h).1
@@ -122,10 +122,10 @@ module _ (job : DistributedJob) (may : Label → List Outline → Type 0) (withi
       let a = among_is job may traversal this bound ranks two traversals within exacts u h.is in
       let m = plan_allowed job may traversal this bound ranks two traversals within exacts u a.0 a.1 in
       let p = put_is job u (plan job traversal u) m h.at (entry command x) h.here in
-      let few = few_parts m.word m.action (puts_how m.word m.action m.fit p.puts_first) in
+      let few = few_parts m.operation m.action (puts_how m.operation m.action m.fit p.puts_first) in
       let part : u.part ≤ 1 = omega (arith, few, m.part) in
       let w = working job may traversal this bound ranks two traversals within exacts u a.1 in
-      let v : traversal.visits u.command u.place ≡ true = visits_of w.word u.command u.part u.place part w.is_spawned in
+      let v : traversal.visits u.command u.place ≡ true = visits_of w.operation u.command u.part u.place part w.is_spawned in
       let c : u.command ≡ command = ap (λ (z : CellName). z.version) p.entry in
       let y : u.place ≡ x = ap (λ (z : CellName). z.place) p.entry in
       (sym (λ i. traversal.visits (c i) (y i)) ∙ v, sym (ap job.owner y) ∙ sym (home_is u.part u.place (omega (arith, part))) ∙ h.there)
@@ -137,7 +137,7 @@ module _ (job : DistributedJob) (may : Label → List Outline → Type 0) (withi
       let m = plan_allowed job may traversal this bound ranks two traversals within exacts u a.0 a.1 in
       let p = erase_is job may within u (plan job traversal u) h.at (entry command x) m h.here in
       let w = working job may traversal this bound ranks two traversals within exacts u a.1 in
-      let v : traversal.erases u.command u.place ≡ true = erases_of w.word u.command u.part u.place p.part w.is_spawned in
+      let v : traversal.erases u.command u.place ≡ true = erases_of w.operation u.command u.part u.place p.part w.is_spawned in
       let c : u.command ≡ command = ap (λ (z : CellName). z.version) p.entry in
       let y : u.place ≡ x = ap (λ (z : CellName). z.place) p.entry in
       (sym (λ i. traversal.erases (c i) (y i)) ∙ v, sym (ap job.owner y) ∙ sym (home_is u.part u.place (omega (arith, p.part))) ∙ h.there)
@@ -147,25 +147,25 @@ module _ (job : DistributedJob) (may : Label → List Outline → Type 0) (withi
   head false n rest e = absurd (cc)
 
   -- a unit that puts its key's entry
-  put_by : (part x r : ℕ) (a : Action) → part ≤ 2 → is_spawned_of job traversal word command part x ≡ true → action_of traversal command part x ≡ a → puts_first word a ≡ true → job.owner x ≡ r → UnitHas (plan job traversal) (home job) us r (of.Put (entry command x))
+  put_by : (part x r : ℕ) (a : Action) → part ≤ 2 → is_spawned_of job traversal operation command part x ≡ true → action_of traversal command part x ≡ a → puts_first operation a ≡ true → job.owner x ≡ r → UnitHas (plan job traversal) (home job) us r (of.Put (entry command x))
   put_by part x r a few h action p o = record {
     unit = label command part x;
     is = here part x h;
     there = home_is part x few ∙ o;
     at = 0;
-    here = ap (λ (z : List Outline). slice_get z 0) (plan_is job may traversal this bound ranks two traversals within exacts word command part x a at action) ∙ head (puts_first word a) (entry command x) (rest_of job a command x) p;
+    here = ap (λ (z : List Outline). slice_get z 0) (plan_is job may traversal this bound ranks two traversals within exacts operation command part x a at action) ∙ head (puts_first operation a) (entry command x) (rest_of job a command x) p;
   }
 
-  visited : (x : ℕ) → traversal.visits command x ≡ true → is_spawned_of job traversal word command 0 x ≡ true
-  visited x v = and_from (is_on_trees word) (traversal.visits command x) (tree_word word writing) v
+  visited : (x : ℕ) → traversal.visits command x ≡ true → is_spawned_of job traversal operation command 0 x ≡ true
+  visited x v = and_from (is_on_trees operation) (traversal.visits command x) (tree_word operation writing) v
 
   puts_it : (x r : ℕ) → traversal.visits command x ≡ true → job.owner x ≡ r → UnitHas (plan job traversal) (home job) us r (of.Put (entry command x))
   puts_it x r v o = by_children (traversal.visits command (2 * x)) refl
     where
-      leaves : puts_first word Stop ≡ true
+      leaves : puts_first operation Stop ≡ true
       leaves = writing
 
-      merges : (b : Bool) → puts_up word ≡ true → puts_first word (if b then Merge else Combine) ≡ true
+      merges : (b : Bool) → puts_up operation ≡ true → puts_first operation (if b then Merge else Combine) ≡ true
       merges true e = refl
       merges false e = e
 
@@ -173,16 +173,16 @@ module _ (job : DistributedJob) (may : Label → List Outline → Type 0) (withi
       by_children false e = put_by 0 x r Stop (omega arith) (visited x v) (cond-false (traversal.visits command (2 * x)) Descend Stop e) leaves o
       by_children true e = ⊎_elim
           (λ d. put_by 0 x r Descend (omega arith) (visited x v) (cond-true (traversal.visits command (2 * x)) Descend Stop e) d o)
-          (λ u. put_by 1 x r (action_of traversal command 1 x) (omega arith) (and_from (is_on_trees word) (traversal.visits command x && traversal.visits command (2 * x)) (tree_word word writing) (and_from (traversal.visits command x) (traversal.visits command (2 * x)) v e)) refl (merges (traversal.erases command (2 * x)) u) o)
-          (or_cases (puts_down word) (puts_up word) writing)
+          (λ u. put_by 1 x r (action_of traversal command 1 x) (omega arith) (and_from (is_on_trees operation) (traversal.visits command x && traversal.visits command (2 * x)) (tree_word operation writing) (and_from (traversal.visits command x) (traversal.visits command (2 * x)) v e)) refl (merges (traversal.erases command (2 * x)) u) o)
+          (or_cases (puts_down operation) (puts_up operation) writing)
 
   erases_it : (x r : ℕ) → traversal.erases command x ≡ true → job.owner x ≡ r → UnitHas (plan job traversal) (home job) us r (of.Erase (entry command x))
   erases_it x r v o = record {
     unit = erase_unit command x;
-    is = here 2 x (and_from (is_coarsen word) (traversal.erases command x) (ap is_coarsen (some_is word Coarsen (sym at ∙ k.erases_in_coarsen x v))) v);
+    is = here 2 x (and_from (is_coarsen operation) (traversal.erases command x) (ap is_coarsen (some_is operation Coarsen (sym at ∙ k.erases_in_coarsen x v))) v);
     there = o;
     at = 0;
-    here = ap (λ (z : List Outline). slice_get z 0) (plan_is job may traversal this bound ranks two traversals within exacts word command 2 x Erase at refl);
+    here = ap (λ (z : List Outline). slice_get z 0) (plan_is job may traversal this bound ranks two traversals within exacts operation command 2 x Erase at refl);
   }
 
   -- what lies on a rank
@@ -232,9 +232,9 @@ module _ (job : DistributedJob) (may : Label → List Outline → Type 0) (withi
 
 -- the writer of a version is the command of its number, which writes
 record Writer (job : DistributedJob) (version command : ℕ) : Type 0 where
-  word : Operation
-  at : operation_at job command ≡ Some word
-  writing : writes word ≡ true
+  operation : Operation
+  at : operation_at job command ≡ Some operation
+  writing : writes operation ≡ true
   is : command ≡ version
 
 writer_is : (job : DistributedJob) (version command : ℕ) → writer_of job version ≡ Some command → Writer job version command
@@ -245,11 +245,11 @@ writer_is job version command e = by_option (operation_at job version) refl e
     by_option (Some w) at e = by_test (writes w) refl e
       where
         by_test : (b : Bool) → writes w ≡ b → (if b then Some version else None) ≡ Some command → Writer job version command
-        by_test true t e = let same : version ≡ command = some_is version command e in record { word = w; at = sym (ap (operation_at job) same) ∙ at; writing = t; is = sym same }
+        by_test true t e = let same : version ≡ command = some_is version command e in record { operation = w; at = sym (ap (operation_at job) same) ∙ at; writing = t; is = sym same }
         by_test false t e = absurd (cc)
 
 pub bins_held : (may : Label → List Outline → Type 0) → BinsAreHeld may
 bins_held may job within traversal bound ranks two version command writer k exact workers task_effects log before x r run has early =
     let w = writer_is job version command writer in
     subst (λ (v : ℕ). BinsHold job.ranks (holds job traversal bound) v before × BinsHold job.ranks (holds job traversal bound) v log) w.is
-    (held job may within traversal bound ranks two command w.word w.at w.writing k exact workers task_effects log before x r run has early)
+    (held job may within traversal bound ranks two command w.operation w.at w.writing k exact workers task_effects log before x r run has early)

@@ -9,10 +9,10 @@ use Rattle.haar_units.specs.Laws.{MayIsAllowed}
 use Rattle.haar_units.specs.Decisions.{IsDecided, IsByAStep, DecidedStepsAreAllowed}
 
 module _ {U G : Type 0} (may : Label → List Outline → Type 0) (name : U → Label) (is_unit : U → Type 0) (suits right : U → G → Type 0) (step : U → G → List Outline) (by : IsByAStep may name is_unit right step) where
-  module _ (job : DistributedJob) (traversal : Traversal) (sound : ℕ → Bool) (word : U → Operation) (decide : U → G → Action) (d : IsDecided job traversal sound name is_unit suits right step word decide) where
+  module _ (job : DistributedJob) (traversal : Traversal) (sound : ℕ → Bool) (operation : U → Operation) (decide : U → G → Action) (d : IsDecided job traversal sound name is_unit suits right step operation decide) where
     allowed : (u : U) (g : G) → is_unit u → suits u g → Allowed job (name u) (step u g)
     allowed u g is s = record {
-      word = word u;
+      operation = operation u;
       at = d.operations u is;
       action = decide u g;
       fit = (d.actions u g is s).0;
@@ -27,7 +27,7 @@ module _ {U G : Type 0} (may : Label → List Outline → Type 0) (name : U → 
     planned : (u : U) (g : G) → is_unit u → right u g → sound (name u).command ≡ true → is_spawned job traversal (name u) ≡ true → step u g ≡ plan job traversal (name u)
     planned u g is r s here =
         d.steps u g is (d.right_suits u g r)
-        ∙ ap (λ (a : Action). outlines_of job (word u) a (name u).command (name u).place) (d.exact u g is r s here)
+        ∙ ap (λ (a : Action). outlines_of job (operation u) a (name u).command (name u).place) (d.exact u g is r s here)
         ∙ sym (ap (plan_if job traversal (name u)) (d.operations u is))
 
     exact : (command : ℕ) → sound command ≡ true → MayIsPlanned job traversal may command
@@ -37,4 +37,4 @@ module _ {U G : Type 0} (may : Label → List Outline → Type 0) (name : U → 
         a.5 ∙ planned a.0 a.1 a.2 a.4 (ap sound here ∙ s) (ap (is_spawned job traversal) a.3 ∙ up_unit) ∙ ap (plan job traversal) a.3
 
   pub decided : DecidedStepsAreAllowed may name is_unit suits right step
-  decided job traversal sound word decide d = (allowed job traversal sound word decide d, within job traversal sound word decide d, exact job traversal sound word decide d)
+  decided job traversal sound operation decide d = (allowed job traversal sound operation decide d, within job traversal sound operation decide d, exact job traversal sound operation decide d)

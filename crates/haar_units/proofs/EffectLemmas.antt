@@ -72,9 +72,9 @@ pub record Effects (job : DistributedJob) (Q : Label → Outline → Type 0) : T
 
 pub by_effect : (job : DistributedJob) (Q : Label → Outline → Type 0) → Effects job Q → (p : Label) (os : List Outline) (i : ℕ) (o : Outline) → Allowed job p os → slice_get os i ≡ Some o → Q p o
 by_effect job Q h p os i o m e =
-    let at : slice_get (outlines_of job m.word m.action p.command p.place) i ≡ Some o = subst (λ (z : List Outline). slice_get z i ≡ Some o) m.lists e in
+    let at : slice_get (outlines_of job m.operation m.action p.command p.place) i ≡ Some o = subst (λ (z : List Outline). slice_get z i ≡ Some o) m.lists e in
     let here : Q (label p.command (part_of m.action) p.place) o = ⊎_elim
-    (λ first. subst (Q (label p.command (part_of m.action) p.place)) first.2 (h.put m.word m.action p.command p.place m.at m.fit first.0))
-    (λ later. by_rest job p.command p.place (λ a j o. (fits m.word a ≡ true) → (part_of a ≤ 2 → 1 ≤ p.place) → Q (label p.command (part_of a) p.place) o) (h.rest m.word p.command p.place m.at) m.action later.0 o later.2 m.fit (λ few. m.key (subst (λ (n : ℕ). n ≤ 2) (sym m.part) few)))
-    (first_or_later (puts_first m.word m.action) (of.Put (entry p.command p.place)) (rest_of job m.action p.command p.place) i o at) in
+    (λ first. subst (Q (label p.command (part_of m.action) p.place)) first.2 (h.put m.operation m.action p.command p.place m.at m.fit first.0))
+    (λ later. by_rest job p.command p.place (λ a j o. (fits m.operation a ≡ true) → (part_of a ≤ 2 → 1 ≤ p.place) → Q (label p.command (part_of a) p.place) o) (h.rest m.operation p.command p.place m.at) m.action later.0 o later.2 m.fit (λ few. m.key (subst (λ (n : ℕ). n ≤ 2) (sym m.part) few)))
+    (first_or_later (puts_first m.operation m.action) (of.Put (entry p.command p.place)) (rest_of job m.action p.command p.place) i o at) in
     subst (λ (n : ℕ). Q (label p.command n p.place) o) (sym m.part) here

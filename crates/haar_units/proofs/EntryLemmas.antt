@@ -33,7 +33,7 @@ no_puts job c x = by_rest job c x (λ a j o. (n : CellName) → o ≡ of.Put n �
 
 -- a unit that puts an entry puts it first, and it is that of its key
 pub record PutIs (job : DistributedJob) (p : Label) (os : List Outline) (m : Allowed job p os) (i : ℕ) (n : CellName) : Type 0 where
-  pub puts_first : puts_first m.word m.action ≡ true
+  pub puts_first : puts_first m.operation m.action ≡ true
   pub first : i ≡ 0
   pub entry : entry p.command p.place ≡ n
 
@@ -41,7 +41,7 @@ pub put_is : (job : DistributedJob) (p : Label) (os : List Outline) (m : Allowed
 put_is job p os m i n e = ⊎_elim
     (λ first. record { puts_first = first.0; first = first.1; entry = let z : of.Put (entry p.command p.place) ≡ of.Put n = first.2 in cc })
     (λ later. absurd (no_puts job p.command p.place m.action later.0 (of.Put n) later.2 n refl))
-    (first_or_later (puts_first m.word m.action) (of.Put (entry p.command p.place)) (rest_of job m.action p.command p.place) i (of.Put n) (subst (λ (z : List Outline). slice_get z i ≡ Some (of.Put n)) m.lists e))
+    (first_or_later (puts_first m.operation m.action) (of.Put (entry p.command p.place)) (rest_of job m.action p.command p.place) i (of.Put n) (subst (λ (z : List Outline). slice_get z i ≡ Some (of.Put n)) m.lists e))
 
 -- a unit that puts visits a key, and puts in place of spawning; or it combines, of a word whose units don't put where they
 -- spawn
@@ -87,28 +87,28 @@ spawns_not job p q os m leave part command place = record {
       let q_is : q ≡ up_unit p.command p.place = same_label q (up_unit p.command p.place) (sym command) part (sym place) in
       let p_is : p ≡ down_unit p.command p.place = same_label p (down_unit p.command p.place) refl (m.part ∙ ap part_of leave) refl in
       ap parent q_is ∙ ap Some (sym p_is);
-  none = λ i o e unit. leaves_none job m.word p.command p.place i o q (subst (λ (z : List Outline). slice_get z i ≡ Some o) (m.lists ∙ ap (λ (a : Action). outlines_of job m.word a p.command p.place) leave) e) unit;
+  none = λ i o e unit. leaves_none job m.operation p.command p.place i o q (subst (λ (z : List Outline). slice_get z i ≡ Some o) (m.lists ∙ ap (λ (a : Action). outlines_of job m.operation a p.command p.place) leave) e) unit;
 }
 
 module _ (job : DistributedJob) (may : Label → List Outline → Type 0) (within : MayIsAllowed job may) where
-  one_putter : (p q : Label) (os ps : List Outline) (m : Allowed job p os) (n : Allowed job q ps) → puts_first m.word m.action ≡ true → puts_first n.word n.action ≡ true → p.command ≡ q.command → p.place ≡ q.place
+  one_putter : (p q : Label) (os ps : List Outline) (m : Allowed job p os) (n : Allowed job q ps) → puts_first m.operation m.action ≡ true → puts_first n.operation n.action ≡ true → p.command ≡ q.command → p.place ≡ q.place
       → (p ≡ q) ⊎ (SpawnsNot parent p os q ⊎ SpawnsNot parent q ps p)
-  one_putter p q os ps m n a b command place = meet (puts_how m.word m.action m.fit a) (puts_how n.word n.action n.fit b)
+  one_putter p q os ps m n a b command place = meet (puts_how m.operation m.action m.fit a) (puts_how n.operation n.action n.fit b)
     where
-      operations : m.word ≡ n.word
-      operations = some_is m.word n.word (sym m.at ∙ ap (operation_at job) command ∙ n.at)
+      operations : m.operation ≡ n.operation
+      operations = some_is m.operation n.operation (sym m.at ∙ ap (operation_at job) command ∙ n.at)
 
       parts : part_of m.action ≡ part_of n.action → p ≡ q
       parts e = same_label p q command (m.part ∙ e ∙ sym n.part) place
 
-      meet : Puts m.word m.action → Puts n.word n.action → (p ≡ q) ⊎ (SpawnsNot parent p os q ⊎ SpawnsNot parent q ps p)
+      meet : Puts m.operation m.action → Puts n.operation n.action → (p ≡ q) ⊎ (SpawnsNot parent p os q ⊎ SpawnsNot parent q ps p)
       meet (where_all e f) (where_all g h) = inl (parts (e ∙ sym g))
       meet (where_all e f) (in_place g) = inl (parts (e ∙ sym (ap part_of g)))
-      meet (where_all e f) (above_it g h) = absurd (both_ways (puts_up n.word) (sym (ap puts_up operations) ∙ f) h)
+      meet (where_all e f) (above_it g h) = absurd (both_ways (puts_up n.operation) (sym (ap puts_up operations) ∙ f) h)
       meet (in_place e) (where_all g h) = inl (parts (ap part_of e ∙ sym g))
       meet (in_place e) (in_place g) = inl (parts (ap part_of e ∙ sym (ap part_of g)))
       meet (in_place e) (above_it g h) = inr (inl (spawns_not job p q os m e (n.part ∙ g) command place))
-      meet (above_it e f) (where_all g h) = absurd (both_ways (puts_up m.word) (ap puts_up operations ∙ h) f)
+      meet (above_it e f) (where_all g h) = absurd (both_ways (puts_up m.operation) (ap puts_up operations ∙ h) f)
       meet (above_it e f) (in_place g) = inr (inr (spawns_not job q p ps n g (m.part ∙ e) (sym command) (sym place)))
       meet (above_it e f) (above_it g h) = inl (parts (e ∙ sym g))
 
@@ -124,7 +124,7 @@ module _ (job : DistributedJob) (may : Label → List Outline → Type 0) (withi
 
   -- an eraser erases just its key's entry
   pub record EraseIs (p : Label) (os : List Outline) (i : ℕ) (n : CellName) : Type 0 where
-    pub word : operation_at job p.command ≡ Some Coarsen
+    pub operation : operation_at job p.command ≡ Some Coarsen
     pub part : p.part ≡ 2
     pub key : 1 ≤ p.place
     pub first : i ≡ 0
@@ -162,14 +162,14 @@ module _ (job : DistributedJob) (may : Label → List Outline → Type 0) (withi
       clears zero e = (refl, let z : of.Erase (entry p.command p.place) ≡ of.Erase n = some_is _ _ e in cc)
       clears (suc i) e = absurd (cc)
 
-      go : (a : Action) → fits m.word a ≡ true → p.part ≡ part_of a → slice_get (outlines_of job m.word a p.command p.place) i ≡ Some (of.Erase n) → EraseIs p os i n
-      go Erase f part at = let k = clears i at in record { word = m.at ∙ ap Some (coarsens m.word f); part = part; key = m.key (omega (arith, part)); first = k.0; entry = k.1 }
-      go Stop f part at = absurd (other m.word Stop (λ e. omega (arith, e)) at)
-      go Descend f part at = absurd (other m.word Descend (λ e. omega (arith, e)) at)
-      go Combine f part at = absurd (other m.word Combine (λ e. omega (arith, e)) at)
-      go Merge f part at = absurd (other m.word Merge (λ e. omega (arith, e)) at)
-      go Count f part at = absurd (other m.word Count (λ e. omega (arith, e)) at)
-      go Sum f part at = absurd (other m.word Sum (λ e. omega (arith, e)) at)
+      go : (a : Action) → fits m.operation a ≡ true → p.part ≡ part_of a → slice_get (outlines_of job m.operation a p.command p.place) i ≡ Some (of.Erase n) → EraseIs p os i n
+      go Erase f part at = let k = clears i at in record { operation = m.at ∙ ap Some (coarsens m.operation f); part = part; key = m.key (omega (arith, part)); first = k.0; entry = k.1 }
+      go Stop f part at = absurd (other m.operation Stop (λ e. omega (arith, e)) at)
+      go Descend f part at = absurd (other m.operation Descend (λ e. omega (arith, e)) at)
+      go Combine f part at = absurd (other m.operation Combine (λ e. omega (arith, e)) at)
+      go Merge f part at = absurd (other m.operation Merge (λ e. omega (arith, e)) at)
+      go Count f part at = absurd (other m.operation Count (λ e. omega (arith, e)) at)
+      go Sum f part at = absurd (other m.operation Sum (λ e. omega (arith, e)) at)
 
   pub erases_once : IsOnce may parent (λ c. of.Erase c)
   erases_once = record {
@@ -223,23 +223,23 @@ module _ (job : DistributedJob) (may : Label → List Outline → Type 0) (withi
       go m = ⊎_elim
           (λ first. let z : of.Put (entry w.command w.place) ≡ of.Give (key_future c x) h = first.2 in absurd (cc))
           (λ later. by_how later.0 later.1 (gives_how w.command w.place m.action later.0 (of.Give (key_future c x) h) later.2 (key_future c x) h refl))
-          (first_or_later (puts_first m.word m.action) (of.Put (entry w.command w.place)) (rest_of job m.action w.command w.place) i (of.Give (key_future c x) h) (subst (λ (z : List Outline). slice_get z i ≡ Some (of.Give (key_future c x) h)) m.lists e))
+          (first_or_later (puts_first m.operation m.action) (of.Put (entry w.command w.place)) (rest_of job m.action w.command w.place) i (of.Give (key_future c x) h) (subst (λ (z : List Outline). slice_get z i ≡ Some (of.Give (key_future c x) h)) m.lists e))
         where
-          by_how : (j : ℕ) → i ≡ offset (puts_first m.word m.action) + j → Gives m.action w.command w.place (key_future c x) → (home job w ≡ job.owner x) × ((k : ℕ) × (k < i) × (slice_get os k ≡ Some (of.Put (entry c x))))
+          by_how : (j : ℕ) → i ≡ offset (puts_first m.operation m.action) + j → Gives m.action w.command w.place (key_future c x) → (home job w ≡ job.owner x) × ((k : ℕ) × (k < i) × (slice_get os k ≡ Some (of.Put (entry c x))))
           by_how j is (its_own part put own) =
               let command : w.command ≡ c = ap (λ (v : Label). v.command) own in
               let place : w.place ≡ x = ap (λ (v : Label). v.place) own in
-              let word : m.word ≡ Coarsen = some_is m.word Coarsen (sym m.at ∙ ap (operation_at job) command ∙ at) in
+              let operation : m.operation ≡ Coarsen = some_is m.operation Coarsen (sym m.at ∙ ap (operation_at job) command ∙ at) in
               let few : w.part ≤ 2 = omega (arith, m.part, part) in
-              let first = put_first (puts_first m.word m.action) (entry w.command w.place) (rest_of job m.action w.command w.place) i j (ap (λ (z : Operation). puts_first z m.action) word ∙ put) is in (
+              let first = put_first (puts_first m.operation m.action) (entry w.command w.place) (rest_of job m.action w.command w.place) i j (ap (λ (z : Operation). puts_first z m.action) operation ∙ put) is in (
                 sym (home_is w.part w.place few) ∙ ap job.owner place,
                 (first.0, first.1, ap (λ (z : List Outline). slice_get z first.0) m.lists ∙ first.2 ∙ (λ k. Some (of.Put (entry (command k) (place k))))),
               )
           by_how j is (of_count part) = absurd (omega (arith, part))
           by_how j is (of_sum sum_unit command) =
-              let word : m.word ≡ Coarsen = some_is m.word Coarsen (sym m.at ∙ ap (operation_at job) (sym command) ∙ at) in
-              let fit : fits m.word m.action ≡ true = m.fit in
-              let t : false ≡ true = sym (λ k. fits (word k) (sum_unit k)) ∙ fit in
+              let operation : m.operation ≡ Coarsen = some_is m.operation Coarsen (sym m.at ∙ ap (operation_at job) (sym command) ∙ at) in
+              let fit : fits m.operation m.action ≡ true = m.fit in
+              let t : false ≡ true = sym (λ k. fits (operation k) (sum_unit k)) ∙ fit in
               absurd (cc)
 
   -- of the children of the key above, one is the key
@@ -262,6 +262,6 @@ module _ (job : DistributedJob) (may : Label → List Outline → Type 0) (withi
           key_future p.command p.place,
           above p (up_unit p.command (p.place / 2)) (sym (ap parent p_is)) (same (up_unit p.command (p.place / 2)) refl),
           is_needed p.command p.place a.key,
-          subst (λ (z : CellName). GivesAfterPut may (home job) (key_future p.command p.place) z (home job p)) a.entry (subst (λ (r : ℕ). GivesAfterPut may (home job) (key_future p.command p.place) (entry p.command p.place) r) (home_is p.part p.place few) (gives_after p.command p.place a.word)),
+          subst (λ (z : CellName). GivesAfterPut may (home job) (key_future p.command p.place) z (home job p)) a.entry (subst (λ (r : ℕ). GivesAfterPut may (home job) (key_future p.command p.place) (entry p.command p.place) r) (home_is p.part p.place few) (gives_after p.command p.place a.operation)),
         );
   }

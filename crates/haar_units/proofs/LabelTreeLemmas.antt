@@ -90,12 +90,12 @@ module _ (job : DistributedJob) where
   }) p os i o m e u
 
   -- its place among the outlines
-  placed : (p : Label) (os : List Outline) (m : Allowed job p os) (i : ℕ) (o : Outline) (u : Label) → slice_get os i ≡ Some o → unit_of o ≡ Some u → i ≡ offset (puts_first m.word m.action) + spawn_place u.part u.place
+  placed : (p : Label) (os : List Outline) (m : Allowed job p os) (i : ℕ) (o : Outline) (u : Label) → slice_get os i ≡ Some o → unit_of o ≡ Some u → i ≡ offset (puts_first m.operation m.action) + spawn_place u.part u.place
   unfolding spawn_place
   placed p os m i o u e unit = ⊎_elim
       (λ first. none_is u (ap unit_of first.2 ∙ unit))
-      (λ later. later.1 ∙ ap (λ (n : ℕ). offset (puts_first m.word m.action) + n) (rest m.action later.0 o later.2 u unit))
-      (first_or_later (puts_first m.word m.action) (of.Put (entry p.command p.place)) (rest_of job m.action p.command p.place) i o (subst (λ (z : List Outline). slice_get z i ≡ Some o) m.lists e))
+      (λ later. later.1 ∙ ap (λ (n : ℕ). offset (puts_first m.operation m.action) + n) (rest m.action later.0 o later.2 u unit))
+      (first_or_later (puts_first m.operation m.action) (of.Put (entry p.command p.place)) (rest_of job m.action p.command p.place) i o (subst (λ (z : List Outline). slice_get z i ≡ Some o) m.lists e))
     where
       c : ℕ
       c = p.command

@@ -53,7 +53,7 @@ written : (job : DistributedJob) (p : Label) (os : List Outline) (n : CellName) 
 written job p os n m t =
     let own : entry p.command p.place ≡ n = (sound job p os m).touches n t in
     let version : n.version ≡ p.command = sym (ap (λ (z : CellName). z.version) own) in
-    let writing = touching job m.word m.action p.command p.place n m.fit (subst (λ (z : List Outline). Touches z n) m.lists t) in
+    let writing = touching job m.operation m.action p.command p.place n m.fit (subst (λ (z : List Outline). Touches z n) m.lists t) in
     ap (writer_of job) version ∙ ap (writer_if p.command) m.at ∙ ap (λ (b : Bool). if b then Some p.command else None) writing
 
 pub laws_kept : (may : Label → List Outline → Type 0) → RunsKeepTheLaws may

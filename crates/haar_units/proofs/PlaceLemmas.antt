@@ -101,8 +101,8 @@ shapes job traversal depth command shape is visits erases = shaped job traversal
     (λ x least. erases (2 * x + 1) ∙ sym (erases (2 * x)))
 
 pub merged : MergesAreTraversals
-merged job traversal depth command shape merges is word visits erases = shaped job traversal depth command shape is visits
-    (λ x e. word)
+merged job traversal depth command shape merges is operation visits erases = shaped job traversal depth command shape is visits
+    (λ x e. operation)
     (λ x e.
     let p = and_parts (nat_lt 1 x) (has_place shape x && merges (key_at (x / 2))) (sym (erases x) ∙ e) in
     let q = and_parts (has_place shape x) (merges (key_at (x / 2))) p.1 in

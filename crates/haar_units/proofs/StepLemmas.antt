@@ -172,5 +172,5 @@ module _ (job : DistributedJob) (c x : ℕ) where
 pub sound : (job : DistributedJob) (p : Label) (os : List Outline) → Allowed job p os → KeepsStepLaws job p os
 sound job p os m =
     subst (λ (z : List Outline). KeepsStepLaws job p z) (sym m.lists)
-    (subst (λ (n : ℕ). KeepsStepLaws job (label p.command n p.place) (outlines_of job m.word m.action p.command p.place)) (sym m.part)
-    (act_is job p.command p.place (puts_first m.word m.action) m.action (λ few. m.key (subst (λ (n : ℕ). n ≤ 2) (sym m.part) few))))
+    (subst (λ (n : ℕ). KeepsStepLaws job (label p.command n p.place) (outlines_of job m.operation m.action p.command p.place)) (sym m.part)
+    (act_is job p.command p.place (puts_first m.operation m.action) m.action (λ few. m.key (subst (λ (n : ℕ). n ≤ 2) (sym m.part) few))))

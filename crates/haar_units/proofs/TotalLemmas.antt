@@ -459,8 +459,8 @@ kinds_long (w ∷ operations) = ap suc (kinds_long operations)
 
 module _ (job : DistributedJob) (may : Label → List Outline → Type 0) (within : MayIsAllowed job may) (one : 1 ≤ job.ranks) (root : job.owner 1 ≡ 0) (traversal : Traversal) (bound : ℕ) (ranks : job.ranks ≤ bound) (two : 2 ≤ bound) where
   module _ (workers : ℕ) (task_effects : TaskEffects) (log before : List Mark) (x : Mark) (r : Receipt) (run : IsRun job.ranks workers (program job) may task_effects log) (has : HasReceipt log before x r)
-      (course_of : (command : ℕ) (word : Operation) → fences_before command (kinds job) < r.fence → operation_at job command ≡ Some word → is_on_trees word ≡ true → IsTraversal job traversal bound command)
-      (exact : (command : ℕ) (word : Operation) → fences_before command (kinds job) < r.fence → operation_at job command ≡ Some word → MayIsPlanned job traversal may command) where
+      (course_of : (command : ℕ) (operation : Operation) → fences_before command (kinds job) < r.fence → operation_at job command ≡ Some operation → is_on_trees operation ≡ true → IsTraversal job traversal bound command)
+      (exact : (command : ℕ) (operation : Operation) → fences_before command (kinds job) < r.fence → operation_at job command ≡ Some operation → MayIsPlanned job traversal may command) where
     abbrev early : ℕ → Bool
     early c = nat_lt (fences_before c (kinds job)) r.fence
 

@@ -59,16 +59,16 @@ module _ (job : DistributedJob) (may : Label → List Outline → Type 0) (trave
     (traversals : (c : ℕ) (w : Operation) → of c ≡ true → operation_at job c ≡ Some w → is_on_trees w ≡ true → IsTraversal job traversal bound c) (within : MayIsAllowed job may) (exact : (c : ℕ) → of c ≡ true → MayIsPlanned job traversal may c) where
   -- a unit that comes up, by its word
   pub record Working (u : Label) : Type 0 where
-    pub word : Operation
-    pub at : operation_at job u.command ≡ Some word
-    pub is_spawned : is_spawned_of job traversal word u.command u.part u.place ≡ true
+    pub operation : Operation
+    pub at : operation_at job u.command ≡ Some operation
+    pub is_spawned : is_spawned_of job traversal operation u.command u.part u.place ≡ true
 
   pub working : (u : Label) → is_spawned job traversal u ≡ true → Working u
   working u h = go (operation_at job u.command) refl h
     where
       go : (w : Option Operation) → operation_at job u.command ≡ w → is_spawned_if job traversal u w ≡ true → Working u
       go None at h = absurd (cc)
-      go (Some w) at h = record { word = w; at = at; is_spawned = h }
+      go (Some w) at h = record { operation = w; at = at; is_spawned = h }
 
   pub is_spawned_by : (w : Operation) (c part x : ℕ) → operation_at job c ≡ Some w → is_spawned_of job traversal w c part x ≡ true → is_spawned job traversal (label c part x) ≡ true
   is_spawned_by w c part x at h = ap (is_spawned_if job traversal (label c part x)) at ∙ h
@@ -140,8 +140,8 @@ module _ (job : DistributedJob) (may : Label → List Outline → Type 0) (trave
       where
         clear_comes : (y : ℕ) → IsTraversal job traversal bound c → traversal.erases c y ≡ true → is_spawned job traversal (erase_unit c y) ≡ true
         clear_comes y k e =
-            let word : w ≡ Coarsen = some_is w Coarsen (sym at ∙ k.erases_in_coarsen y e) in
-            is_spawned_by w c 2 y at (and_from (is_coarsen w) (traversal.erases c y) (ap is_coarsen word) e)
+            let operation : w ≡ Coarsen = some_is w Coarsen (sym at ∙ k.erases_in_coarsen y e) in
+            is_spawned_by w c 2 y at (and_from (is_coarsen w) (traversal.erases c y) (ap is_coarsen operation) e)
 
   start_comes : (u : Label) (o : Outline) → Starting job o → unit_of o ≡ Some u → of u.command ≡ true → is_spawned job traversal u ≡ true
   start_comes u o s e kind = go s.is
@@ -160,11 +160,11 @@ module _ (job : DistributedJob) (may : Label → List Outline → Type 0) (trave
       let here : of p.command ≡ true = ap of (sym (command_stays job may within p os i (told_as.Spawn u d ns q) u m at refl)) ∙ kind in
       let up_unit = came p rank c here in
       let w = working p up_unit in
-      let lists : os ≡ outlines_of job w.word (action_at traversal p) p.command p.place = exact p.command here p os refl up_unit m ∙ plan_is w.word p.command p.part p.place (action_at traversal p) w.at refl in
+      let lists : os ≡ outlines_of job w.operation (action_at traversal p) p.command p.place = exact p.command here p os refl up_unit m ∙ plan_is w.operation p.command p.part p.place (action_at traversal p) w.at refl in
       ⊎_elim
       (λ first. none_is u (ap unit_of first.2))
-      (λ later. spawn_comes w.word p.command p.place here w.at p.part w.is_spawned (action_at traversal p) later.0 (told_as.Spawn u d ns q) later.2 refl u refl)
-      (first_or_later (puts_first w.word (action_at traversal p)) (told_as.Put (entry p.command p.place)) (rest_of job (action_at traversal p) p.command p.place) i (told_as.Spawn u d ns q) (subst (λ (z : List Outline). slice_get z i ≡ Some (told_as.Spawn u d ns q)) lists at))
+      (λ later. spawn_comes w.operation p.command p.place here w.at p.part w.is_spawned (action_at traversal p) later.0 (told_as.Spawn u d ns q) later.2 refl u refl)
+      (first_or_later (puts_first w.operation (action_at traversal p)) (told_as.Put (entry p.command p.place)) (rest_of job (action_at traversal p) p.command p.place) i (told_as.Spawn u d ns q) (subst (λ (z : List Outline). slice_get z i ≡ Some (told_as.Spawn u d ns q)) lists at))
 
   -- and what is planned comes up
 
@@ -288,8 +288,8 @@ module _ (job : DistributedJob) (may : Label → List Outline → Type 0) (trave
   pub is_among : (u : Label) → of u.command ≡ true → is_spawned job traversal u ≡ true → Contains (units job traversal of bound) u
   is_among u kind h =
       let w = working u h in
-      let f = few w.word u.command u.part u.place kind w.at w.is_spawned in
-      passes_listed test (suc (length job.operations)) 5 bound u (command_few u.command w.word w.at) f.0 f.1 (and_from (of u.command) (is_spawned job traversal u) kind h)
+      let f = few w.operation u.command u.part u.place kind w.at w.is_spawned in
+      passes_listed test (suc (length job.operations)) 5 bound u (command_few u.command w.operation w.at) f.0 f.1 (and_from (of u.command) (is_spawned job traversal u) kind h)
 
   pub among_is : (u : Label) → Contains (units job traversal of bound) u → (of u.command ≡ true) × (is_spawned job traversal u ≡ true)
   among_is u h = and_parts (of u.command) (is_spawned job traversal u) (listed_passes test (suc (length job.operations)) 5 bound u h)
@@ -298,8 +298,8 @@ module _ (job : DistributedJob) (may : Label → List Outline → Type 0) (trave
   pub plan_allowed : (u : Label) → of u.command ≡ true → is_spawned job traversal u ≡ true → Allowed job u (plan job traversal u)
   plan_allowed u kind h =
       let w = working u h in
-      let f = fits_plan w.word u.command u.part u.place kind w.at w.is_spawned in
-      record { word = w.word; at = w.at; action = action_at traversal u; fit = f.0; part = f.1; key = f.2; lists = plan_is w.word u.command u.part u.place (action_at traversal u) w.at refl }
+      let f = fits_plan w.operation u.command u.part u.place kind w.at w.is_spawned in
+      record { operation = w.operation; at = w.at; action = action_at traversal u; fit = f.0; part = f.1; key = f.2; lists = plan_is w.operation u.command u.part u.place (action_at traversal u) w.at refl }
     where
       down_fits : (b : Bool) (w : Operation) → is_on_trees w ≡ true → (fits w (if b then Descend else Stop) ≡ true) × (0 ≡ part_of (if b then Descend else Stop))
       down_fits true w e = (e, refl)
@@ -335,7 +335,7 @@ module _ (job : DistributedJob) (may : Label → List Outline → Type 0) (trave
     only = λ u h.
         let p = among_is u h in
         let w = working u p.1 in
-        (planned w.word u.command u.part u.place p.0 w.at w.is_spawned, p.0);
+        (planned w.operation u.command u.part u.place p.0 w.at w.is_spawned, p.0);
     task_effects = λ u os h m.
         let p = among_is u h in
         exact u.command p.0 u os refl p.1 m;

@@ -1,4 +1,4 @@
--- What the bins hold of the version that a command writes.
+-- Which entries of a version each rank holds after the version's command.
 use Rattle.std.specs.Prelude.{◌≡◌, ℕ, zero, suc, ◌≤◌, Bool, ◌&&◌, ◌||◌, not, ◌==◌, if◌then◌else◌, List, [], ◌∷◌, Option, Some, None}
 use Rattle.app_core.specs.declared.label.Label.{Label}
 use Rattle.app_core.specs.declared.outline.Outline.{Outline}
@@ -11,30 +11,33 @@ use Rattle.haar_units.specs.Starts.{program}
 use Rattle.haar_units.specs.Traversals.{Traversal, IsTraversal, MayIsPlanned}
 use Rattle.haar_units.specs.Laws.{MayIsAllowed}
 
+-- whether a command writes a version
 abbrev pub writes : Operation → Bool
-writes word = puts_down word || puts_up word
+writes operation = puts_down operation || puts_up operation
 
 abbrev pub writer_if : ℕ → Option Operation → Option ℕ
 writer_if version None = None
-writer_if version (Some word) = if writes word then Some version else None
+writer_if version (Some operation) = if writes operation then Some version else None
 
--- the command that writes a version: that of the version's number
+-- the command that writes a version: the one with the version's number, if it writes
 abbrev pub writer_of : DistributedJob → ℕ → Option ℕ
 writer_of job version = writer_if version (operation_at job version)
 
--- the places below a bound that pass a test
+-- the places below a bound that pass a test, from the largest down
 abbrev pub places : (ℕ → Bool) → ℕ → List ℕ
 places test zero = []
 places test (suc place) = if test place then place ∷ places test place else places test place
 
--- whether an entry of a version lies on a rank behind the version's command
+-- whether a rank holds the entry of a version at a place: its command visits the key and doesn't erase it, and the rank owns it
 abbrev pub is_held : DistributedJob → Traversal → ℕ → ℕ → ℕ → Bool
 is_held job traversal rank version place = traversal.visits version place && (not (traversal.erases version place) && (job.owner place == rank))
 
+-- the places of the entries of a version that a rank holds
 abbrev pub holds : DistributedJob → Traversal → ℕ → ℕ → ℕ → List ℕ
 holds job traversal bound rank version = places (is_held job traversal rank version) bound
 
--- of the version that a command writes, whatever the other commands do
+-- at the receipt of a fence, and from then on, the bins hold just these entries of the version that a command before the fence
+-- writes, if the units of this command do what is planned, whatever other commands do
 abbrev pub BinsAreHeld : (Label → List Outline → Type 0) → Type 0
 BinsAreHeld may =
     (job : DistributedJob) → MayIsAllowed job may → (traversal : Traversal) (bound : ℕ) → job.ranks ≤ bound → 2 ≤ bound
@@ -43,5 +46,6 @@ BinsAreHeld may =
     → IsBefore (kinds job) command r.fence
     → BinsHold job.ranks (holds job traversal bound) version before × BinsHold job.ranks (holds job traversal bound) version log
 
+-- no place is in the list twice
 abbrev pub PlacesAreDifferent : Type 0
 PlacesAreDifferent = (job : DistributedJob) (traversal : Traversal) (bound rank version : ℕ) → AreDifferent (holds job traversal bound rank version)

@@ -1,4 +1,4 @@
--- What holds of the units of commands on trees.
+-- What holds of the units of commands on trees: the facts from which the laws on lists of events follow.
 use Rattle.std.specs.Prelude.{◌≡◌, ℕ, ◌≤◌, ◌<◌, Bool, true, List, Some}
 use Rattle.app_core.specs.declared.label.Label.{Label}
 use Rattle.app_core.specs.declared.outline.Outline.{Outline}
@@ -12,44 +12,54 @@ use Rattle.haar_units.specs.Starts.{program}
 use Rattle.haar_units.specs.Actions.{Allowed}
 use Rattle.haar_units.specs.Traversals.{Traversal, IsTraversal, MayIsPlanned, plan, units}
 
--- all that a unit may do is allowed by its label
+-- a unit may do only what its label allows
 abbrev pub MayIsAllowed : DistributedJob → (Label → List Outline → Type 0) → Type 0
 MayIsAllowed job may = (p : Label) (os : List Outline) → may p os → Allowed job p os
 
+-- whatever overflows:
+
+-- a unit's label determines the label of its spawner, and no label is spawned twice
 abbrev pub LabelsFormATree : (Label → List Outline → Type 0) → Type 0
 LabelsFormATree may = (job : DistributedJob) → MayIsAllowed job may → LabelsAreTree (program job) may parent
 
+-- a future's label determines its creator, and a unit's label its due
 abbrev pub FuturesHaveOneCreator : (Label → List Outline → Type 0) → Type 0
 FuturesHaveOneCreator may = (job : DistributedJob) → MayIsAllowed job may → BringsUp (program job) may creator due
 
+-- a unit's label determines its home and its needs
 abbrev pub UnitsArePlaced : (Label → List Outline → Type 0) → Type 0
 UnitsArePlaced may = (job : DistributedJob) → MayIsAllowed job may → IsPlaced (program job) may (home job) (needs job)
 
+-- in each run one unit puts an entry, and one erases it
 abbrev pub EntriesArePutOnce : (Label → List Outline → Type 0) → Type 0
 EntriesArePutOnce may = (job : DistributedJob) → MayIsAllowed job may → IsOnce may parent (λ c. of.Put c)
 
 abbrev pub EntriesAreErasedOnce : (Label → List Outline → Type 0) → Type 0
 EntriesAreErasedOnce may = (job : DistributedJob) → MayIsAllowed job may → IsOnce may parent (λ c. of.Erase c)
 
+-- a unit that erases an entry comes after a unit that needs what is given after the put
 abbrev pub ErasersWait : (Label → List Outline → Type 0) → Type 0
 ErasersWait may = (job : DistributedJob) → MayIsAllowed job may → ErasesWait may parent (home job) (needs job)
 
+-- how many fences come before a unit's command
 abbrev pub stage : DistributedJob → Label → ℕ
 stage job u = fences_before u.command (kinds job)
 
-abbrev pub StagesAreTold : (Label → List Outline → Type 0) → Type 0
-StagesAreTold may = (job : DistributedJob) → MayIsAllowed job may → IsStaged (program job) may (stage job)
+-- a unit is spawned after just so many fences
+abbrev pub LabelsTellTheFences : (Label → List Outline → Type 0) → Type 0
+LabelsTellTheFences may = (job : DistributedJob) → MayIsAllowed job may → IsStaged (program job) may (stage job)
 
--- of the commands of a kind, which come before a fence and not behind a command that overflows
-abbrev pub KindsAreOfAFence : (Label → List Outline → Type 0) → Type 0
-KindsAreOfAFence may =
+-- for commands of a kind, all of them before a fence: their units are before it, with all spawners
+abbrev pub CommandsAreBeforeTheFence : (Label → List Outline → Type 0) → Type 0
+CommandsAreBeforeTheFence may =
     (job : DistributedJob) → MayIsAllowed job may
-    → (of : ℕ → Bool) (fence : ℕ) → ((command : ℕ) → of command ≡ true → fences_before command (kinds job) < fence)
-    → IsOfFence may (stage job) fence (λ u. of u.command ≡ true)
+    → (kind : ℕ → Bool) (fence : ℕ) → ((command : ℕ) → kind command ≡ true → fences_before command (kinds job) < fence)
+    → IsOfFence may (stage job) fence (λ u. kind u.command ≡ true)
 
+-- for commands of a kind whose units do only what is planned: just the planned units are spawned, each at its home
 abbrev pub UnitsAreKnown : (Label → List Outline → Type 0) → Type 0
 UnitsAreKnown may =
-    (job : DistributedJob) → MayIsAllowed job may → (traversal : Traversal) (of : ℕ → Bool) (bound : ℕ) → job.ranks ≤ bound → 2 ≤ bound
-    → ((command : ℕ) (word : Operation) → of command ≡ true → operation_at job command ≡ Some word → is_on_trees word ≡ true → IsTraversal job traversal bound command)
-    → ((command : ℕ) → of command ≡ true → MayIsPlanned job traversal may command)
-    → AreUnits (program job) may (λ u. of u.command ≡ true) (plan job traversal) (home job) (units job traversal of bound)
+    (job : DistributedJob) → MayIsAllowed job may → (traversal : Traversal) (kind : ℕ → Bool) (bound : ℕ) → job.ranks ≤ bound → 2 ≤ bound
+    → ((command : ℕ) (operation : Operation) → kind command ≡ true → operation_at job command ≡ Some operation → is_on_trees operation ≡ true → IsTraversal job traversal bound command)
+    → ((command : ℕ) → kind command ≡ true → MayIsPlanned job traversal may command)
+    → AreUnits (program job) may (λ u. kind u.command ≡ true) (plan job traversal) (home job) (units job traversal kind bound)

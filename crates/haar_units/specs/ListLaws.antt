@@ -1,4 +1,5 @@
--- What holds of every run of commands on trees, whatever overflows.
+-- What holds of every run of commands on trees, whatever overflows: laws on lists of events, in the form in which an application
+-- cites them.
 use Rattle.std.specs.Prelude.{◌≡◌, ℕ, List, Some, slice_get}
 use Rattle.app_core.specs.declared.label.Label.{Label}
 use Rattle.app_core.specs.declared.label.CellName.{CellName}

@@ -1,4 +1,4 @@
--- Keys by their places, and the course of a command whose visited keys are a shape.
+-- The keys of places, and traversals that visit the keys of a shape.
 use Rattle.std.specs.Prelude.{◌≡◌, ℕ, zero, suc, ◌+◌, ◌/◌, ◌%◌, ◌^◌, nat_lt, Bool, false, ◌&&◌, ◌==◌, if◌then◌else◌, Some}
 use Rattle.tree_key.specs.Keys.{Key, root, child}
 use Rattle.tree_model.specs.Shapes.{IsShape}
@@ -6,7 +6,7 @@ use Rattle.haar_units.specs.Jobs.{DistributedJob, operation_at}
 use Rattle.haar_units.specs.Jobs.Operation.{Coarsen}
 use Rattle.haar_units.specs.Traversals.{Traversal, IsTraversal}
 
--- the key of a place, found in so many steps
+-- the key of a place, found by so many steps at most; the place has no more levels
 abbrev pub key_in : ℕ → ℕ → Key
 key_in zero place = root
 key_in (suc steps) place = if nat_lt 1 place then child (key_in steps (place / 2)) (place % 2 == 1) else root
@@ -14,18 +14,18 @@ key_in (suc steps) place = if nat_lt 1 place then child (key_in steps (place / 2
 abbrev pub key_at : ℕ → Key
 key_at place = key_in place place
 
--- whether the key of a place is one of these keys
+-- whether the key of a place is one of these; place 0 has no key
 abbrev pub has_place : (Key → Bool) → ℕ → Bool
 has_place keys place = nat_lt 0 place && keys (key_at place)
 
--- where a command visits the keys of a shape and erases none
+-- a command that visits the keys of a shape and erases none
 abbrev pub ShapesAreTraversals : Type 0
 ShapesAreTraversals =
     (job : DistributedJob) (traversal : Traversal) (depth command : ℕ) (shape : Key → Bool) → IsShape depth shape
     → ((place : ℕ) → traversal.visits command place ≡ has_place shape place) → ((place : ℕ) → traversal.erases command place ≡ false)
     → IsTraversal job traversal (2 ^ (depth + 1)) command
 
--- and where `coarsen` erases the keys below those of a kind, which are to be the keys on whose box the list is constant
+-- a `coarsen` that visits the keys of a shape and erases the children of the keys of a kind
 abbrev pub MergesAreTraversals : Type 0
 MergesAreTraversals =
     (job : DistributedJob) (traversal : Traversal) (depth command : ℕ) (shape merges : Key → Bool) → IsShape depth shape → operation_at job command ≡ Some Coarsen

@@ -1,4 +1,4 @@
--- What the laws of an application on single steps and starts ask, of the outlines that a label allows.
+-- What the laws of an application ask of single steps and of starts.
 use Rattle.std.specs.Prelude.{◌≡◌, ◌≢◌, ℕ, ◌+◌, ◌≤◌, List, length, Some, IfSome}
 use Rattle.std.specs.List.{AllByRecursion}
 use Rattle.app_core.specs.declared.label.Label.{Label}
@@ -10,11 +10,12 @@ use Rattle.haar_units.specs.Units.{due, home, entry, key_future}
 use Rattle.haar_units.specs.Starts.{starts}
 use Rattle.haar_units.specs.Actions.{Allowed}
 
--- the due is seen to once and is needed by no unit that is spawned, and nothing else is given; each other future that is
--- brought up is due once and needed once; units with needs stay; and only the key's own entry is put or erased
+-- of a unit's effects: the due is fulfilled or passed on once, no unit that is spawned needs it, and nothing else is given; each
+-- other future that is named is the due of one unit that is spawned and is needed by one; units with needs have the spawner's
+-- home; only the entry of the unit's own key is put or erased
 pub record KeepsStepLaws (job : DistributedJob) (p : Label) (os : List Outline) : Type 0 where
-  pub seen_to : IfSome (due p) (λ due. IsSeenToOnce due os)
-  pub unneeded : IfSome (due p) (λ due. IsNeededNever due os)
+  pub seen_to : IfSome (due p) (λ future. IsSeenToOnce future os)
+  pub unneeded : IfSome (due p) (λ future. IsNeededNever future os)
   pub gives : AllByRecursion (GivesOnly (due p)) os
   pub due_once : (l : Label) → Names os l → due p ≢ Some l → IsDueOnce l os
   pub needed_once : (l : Label) → Names os l → due p ≢ Some l → IsNeededOnce l os
@@ -22,11 +23,12 @@ pub record KeepsStepLaws (job : DistributedJob) (p : Label) (os : List Outline) 
   pub touches : (n : CellName) → Touches os n → entry p.command p.place ≡ n
   pub few : length os ≤ 4
 
+-- what a label allows keeps these laws
 abbrev pub StepsKeepTheLaws : Type 0
 StepsKeepTheLaws = (job : DistributedJob) (p : Label) (os : List Outline) → Allowed job p os → KeepsStepLaws job p os
 
--- the same of the starts of a command: each future that they bring up is the command's, due once and, but for the result,
--- needed once; and a start with needs runs at rank 0
+-- of a command's starts: each future that they name is the command's, is the due of one of them and is needed by one, but for the
+-- result, which none needs; a start with needs runs on rank 0
 pub record KeepsStartLaws (job : DistributedJob) (command : ℕ) : Type 0 where
   pub names : (l : Label) → Names (starts job command) l → l.command ≡ command
   pub due_once : (l : Label) → Names (starts job command) l → IsDueOnce l (starts job command)

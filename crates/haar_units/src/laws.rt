@@ -1,5 +1,5 @@
 //! What holds of the units of commands on trees: each function's contract is a law, and its body is empty.
-ghost use Rattle.haar_units.specs.Laws.{LabelsFormATree, FuturesHaveOneCreator, UnitsArePlaced, EntriesArePutOnce, EntriesAreErasedOnce, ErasersWait, StagesAreTold, KindsAreOfAFence, UnitsAreKnown};
+ghost use Rattle.haar_units.specs.Laws.{LabelsFormATree, FuturesHaveOneCreator, UnitsArePlaced, EntriesArePutOnce, EntriesAreErasedOnce, ErasersWait, LabelsTellTheFences, CommandsAreBeforeTheFence, UnitsAreKnown};
 ghost use Rattle.std.specs.Prelude.{◌≡◌, [], ◌∷◌};
 ghost use Rattle.haar_units.specs.Totals.{ReceiptsCountTheTotals, total_of};
 ghost use Rattle.haar_units.specs.Example.{job, traversal};
@@ -19,7 +19,7 @@ pub fn labels_determine_units<A: Facts>()
     ensures tree { (app : A) → LabelsFormATree (A.may_do app) }
     ensures futures { (app : A) → FuturesHaveOneCreator (A.may_do app) }
     ensures places { (app : A) → UnitsArePlaced (A.may_do app) }
-    ensures stages { (app : A) → StagesAreTold (A.may_do app) }
+    ensures stages { (app : A) → LabelsTellTheFences (A.may_do app) }
 {}
 
 /// Whatever overflows, one unit puts an entry, and one erases it, after it was put.
@@ -31,7 +31,7 @@ pub fn entries_are_put_and_erased_once<A: Facts>()
 
 /// Of commands before the first that overflows, just the planned units come up, each at its home.
 pub fn units_are_known<A: Facts>()
-    ensures of_fence { (app : A) → KindsAreOfAFence (A.may_do app) }
+    ensures of_fence { (app : A) → CommandsAreBeforeTheFence (A.may_do app) }
     ensures units { (app : A) → UnitsAreKnown (A.may_do app) }
 {}
 

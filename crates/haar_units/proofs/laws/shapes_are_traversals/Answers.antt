@@ -5,4 +5,4 @@ pub returns-clause-shapes : goal.returns-clause-shapes
 returns-clause-shapes c = λ job traversal depth command shape is visits erases. shapes job traversal depth command shape is visits erases
 
 pub returns-clause-merges : goal.returns-clause-merges
-returns-clause-merges c = λ job traversal depth command shape merges is word visits erases. merged job traversal depth command shape merges is word visits erases
+returns-clause-merges c = λ job traversal depth command shape merges is operation visits erases. merged job traversal depth command shape merges is operation visits erases
