@@ -1,4 +1,4 @@
--- What the bins hold of the version that a command writes: the entries of the keys that it visits and doesn't erase.
+-- The bins hold, of the version that a command writes, the entries of the keys that it visits and doesn't erase.
 use Rattle.std.proofs.Common.{◌≡◌, ◌≢◌, ◌⊎◌, ℕ, zero, suc, ◌*◌, ◌<◌, ◌≤◌, Bool, true, false, not, ◌&&◌, List, ◌∷◌, refl, sym, ap, ◌∙◌, subst, ⊎_elim, arith}
 use Rattle.std.specs.Prelude.{if◌then◌else◌, ◌==◌, ◌↔◌, Some, slice_get, slice_index_or, Contains, Option, None}
 use Rattle.std.specs.List.{All}
@@ -34,7 +34,7 @@ use Rattle.haar_units.proofs.LabelTreeLemmas.{tree, staged, of_fence}
 use Rattle.haar_units.proofs.EntryLemmas.{put_is, Puts, where_all, in_place, above_it, puts_how, erase_is, puts_once}
 use Rattle.haar_units.proofs.UnitLemmas.{working, is_spawned_by, plan_is, is_among, among_is, plan_allowed, known}
 
--- places
+-- places that pass a test
 
 in_places : (test : ℕ → Bool) (n x : ℕ) → x < n → test x ≡ true → Contains (places test n) x
 in_places test zero x lt t = absurd (omega (arith, lt))
@@ -98,7 +98,7 @@ module _ (job : DistributedJob) (may : Label → List Outline → Type 0) (withi
   home_is (suc (suc zero)) x few = refl
   home_is (suc (suc (suc part))) x few = absurd (omega (arith, few))
 
-  -- what comes up is among the units
+  -- a unit that is spawned is in the list of units
   here : (part x : ℕ) → is_spawned_of job traversal operation command part x ≡ true → Contains us (label command part x)
   here part x h = is_among job may traversal this bound ranks two traversals within exacts (label command part x) (eq-eqb command command refl) (is_spawned_by job may traversal this bound ranks two traversals within exacts operation command part x at h)
 
@@ -115,7 +115,7 @@ module _ (job : DistributedJob) (may : Label → List Outline → Type 0) (withi
   few_parts w a (in_place e) = subst (λ (z : Action). part_of z ≤ 1) (sym e) (omega arith)
   few_parts w a (above_it e f) = omega (arith, e)
 
-  -- a unit of these whose plan has the put of an entry
+  -- one of these units whose plan has an effect
   has_put : (x r : ℕ) → UnitHas (plan job traversal) (home job) us r (of.Put (entry command x)) → (traversal.visits command x ≡ true) × (job.owner x ≡ r)
   has_put x r h =
       let u = h.unit in
@@ -185,7 +185,7 @@ module _ (job : DistributedJob) (may : Label → List Outline → Type 0) (withi
     here = ap (λ (z : List Outline). slice_get z 0) (plan_is job may traversal this bound ranks two traversals within exacts operation command 2 x Erase at refl);
   }
 
-  -- what lies on a rank
+  -- the entries on a rank
   lies : (r x : ℕ) → UnitHas (plan job traversal) (home job) us r (of.Put (entry command x)) → (UnitHas (plan job traversal) (home job) us r (of.Erase (entry command x)) → ⊥) → Contains (holds job traversal bound r command) x
   lies r x p e =
       let v = has_put x r p in
@@ -230,7 +230,7 @@ module _ (job : DistributedJob) (may : Label → List Outline → Type 0) (withi
             (λ h. let d = lay l.rank place h.0 in u.0.1 (d.0, d.1, h.1)),
           )
 
--- the writer of a version is the command of its number, which writes
+-- the writer of a version is the command with its number
 record Writer (job : DistributedJob) (version command : ℕ) : Type 0 where
   operation : Operation
   at : operation_at job command ≡ Some operation

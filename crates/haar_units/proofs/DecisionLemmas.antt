@@ -1,4 +1,4 @@
--- Steps that decide for an act do what their labels allow, and just what is planned where they decide as the course has it.
+-- Steps that decide for an action do what their labels allow, and what is planned if they decide for the planned action.
 use Rattle.std.proofs.Common.{◌≡◌, ℕ, Bool, true, List, sym, ap, ◌∙◌, subst}
 use Rattle.app_core.specs.declared.label.Label.{Label}
 use Rattle.app_core.specs.declared.outline.Outline.{Outline}

@@ -1,4 +1,4 @@
--- What a unit may do, one effect after another.
+-- Case distinctions over the effects that a label allows.
 use Rattle.std.proofs.Common.{◌≡◌, ◌⊎◌, ℕ, zero, suc, ◌+◌, ◌*◌, ◌≤◌, Bool, true, false, List, [], ◌∷◌, refl, sym, subst, inl, inr, ⊎_elim, arith}
 use Rattle.std.specs.Prelude.{if◌then◌else◌, Some, None, slice_get}
 use Rattle.app_core.specs.declared.label.Label.{Label}
@@ -16,7 +16,7 @@ some_is a b e = cc
 pub none_is : {A B : Type 0} (a : A) → None ≡ Some a → B
 none_is a e = absurd (cc)
 
--- what holds of each outline behind the put, by the act and its place there
+-- what holds of each outline after the put, by the action and its index there
 pub record Rest (job : DistributedJob) (c x : ℕ) (P : Action → ℕ → Outline → Type 0) : Type 0 where
   pub stop : P Stop 0 (of.Give (key_future c x) (future_home job (key_future c x)))
   pub left : P Descend 0 (spawn_down job c (2 * x))
@@ -50,7 +50,7 @@ by_rest job c x P h Count (suc j) o e = absurd (cc)
 by_rest job c x P h Sum zero o e = subst (P Sum 0) (some_is _ o e) h.summed
 by_rest job c x P h Sum (suc j) o e = absurd (cc)
 
--- how many outlines stand before the rest
+-- how many outlines are before the rest
 abbrev pub offset : Bool → ℕ
 offset b = if b then 1 else 0
 

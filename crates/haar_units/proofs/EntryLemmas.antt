@@ -15,7 +15,7 @@ use Rattle.haar_units.specs.Actions.Action.{Stop, Descend, Combine, Merge, Erase
 use Rattle.haar_units.specs.Laws.{MayIsAllowed}
 use Rattle.haar_units.proofs.EffectLemmas.{some_is, none_is, by_rest, offset, first_or_later}
 
--- no outline behind the put is a put
+-- no outline after the put is a put
 no_puts : (job : DistributedJob) (c x : ℕ) (a : Action) (j : ℕ) (o : Outline) → slice_get (rest_of job a c x) j ≡ Some o → (n : CellName) → o ≡ of.Put n → ⊥
 no_puts job c x = by_rest job c x (λ a j o. (n : CellName) → o ≡ of.Put n → ⊥) (record {
   stop = λ n e. cc;
@@ -31,7 +31,7 @@ no_puts job c x = by_rest job c x (λ a j o. (n : CellName) → o ≡ of.Put n �
   summed = λ n e. cc;
 })
 
--- a unit that puts an entry puts it first, and it is that of its key
+-- a unit that puts an entry puts it first, and it is the entry of its key
 pub record PutIs (job : DistributedJob) (p : Label) (os : List Outline) (m : Allowed job p os) (i : ℕ) (n : CellName) : Type 0 where
   pub puts_first : puts_first m.operation m.action ≡ true
   pub first : i ≡ 0
@@ -43,8 +43,8 @@ put_is job p os m i n e = ⊎_elim
     (λ later. absurd (no_puts job p.command p.place m.action later.0 (of.Put n) later.2 n refl))
     (first_or_later (puts_first m.operation m.action) (of.Put (entry p.command p.place)) (rest_of job m.action p.command p.place) i (of.Put n) (subst (λ (z : List Outline). slice_get z i ≡ Some (of.Put n)) m.lists e))
 
--- a unit that puts visits a key, and puts in place of spawning; or it combines, of a word whose units don't put where they
--- spawn
+-- a unit that puts visits a key, and spawns nothing unless its operation puts at each key; or it combines, and its operation doesn't
+-- put where units descend
 pub data Puts (w : Operation) (a : Action) : Type 0 where
   where_all : part_of a ≡ 0 → puts_up w ≡ false → Puts w a
   in_place : a ≡ Stop → Puts w a
@@ -65,7 +65,7 @@ puts_how w Erase f p = absurd (cc)
 puts_how w Count f p = absurd (cc)
 puts_how w Sum f p = absurd (cc)
 
--- a label is told by its parts
+-- labels with equal parts are equal
 same_label : (p q : Label) → p.command ≡ q.command → p.part ≡ q.part → p.place ≡ q.place → p ≡ q
 same_label p q c n x = λ i. record { command = c i; part = n i; place = x i }
 
@@ -80,7 +80,7 @@ leaves_none job w c x i o u e unit = ⊎_elim
     rest zero o e unit = none_is u (ap unit_of (some_is _ o e) ∙ unit)
     rest (suc j) o e unit = cc
 
--- where one visits the key and another combines, the second is spawned by the first, which puts in place of that
+-- if one visits the key and the other combines, the first is the second's spawner, and puts instead of spawning
 spawns_not : (job : DistributedJob) (p q : Label) (os : List Outline) (m : Allowed job p os) → m.action ≡ Stop → q.part ≡ 1 → p.command ≡ q.command → p.place ≡ q.place → SpawnsNot parent p os q
 spawns_not job p q os m leave part command place = record {
   spawner =
@@ -122,7 +122,7 @@ module _ (job : DistributedJob) (may : Label → List Outline → Type 0) (withi
     place = λ p os i j c m e f. (put_is job p os (within p os m) i c e).first ∙ sym (put_is job p os (within p os m) j c f).first;
   }
 
-  -- an eraser erases just its key's entry
+  -- a unit that erases an entry is the erase unit of its key
   pub record EraseIs (p : Label) (os : List Outline) (i : ℕ) (n : CellName) : Type 0 where
     pub operation : operation_at job p.command ≡ Some Coarsen
     pub part : p.part ≡ 2
@@ -181,7 +181,7 @@ module _ (job : DistributedJob) (may : Label → List Outline → Type 0) (withi
     place = λ p os i j c m e f. (erase_is p os i c (within p os m) e).first ∙ sym (erase_is p os j c (within p os m) f).first;
   }
 
-  -- a unit gives the future of its key; else it is one that counts
+  -- a unit gives the future of its key, or it counts
   data Gives (a : Action) (c x : ℕ) (l : Label) : Type 0 where
     its_own : part_of a ≤ 1 → puts_first Coarsen a ≡ true → key_future c x ≡ l → Gives a c x l
     of_count : l.part ≡ 1 → Gives a c x l
@@ -215,7 +215,7 @@ module _ (job : DistributedJob) (may : Label → List Outline → Type 0) (withi
   put_first true n rest i j b e = (0, omega (arith, e), refl)
   put_first false n rest i j b e = absurd (cc)
 
-  -- a unit of `coarsen` that gives the future of a key runs at the key's owner, and puts the key's entry before
+  -- a unit of `coarsen` that gives the future of a key runs on the key's owner, and puts the key's entry before
   gives_after : (c x : ℕ) → operation_at job c ≡ Some Coarsen → GivesAfterPut may (home job) (key_future c x) (entry c x) (job.owner x)
   gives_after c x at w os i h m e = go (within w os m)
     where
@@ -242,7 +242,7 @@ module _ (job : DistributedJob) (may : Label → List Outline → Type 0) (withi
               let t : false ≡ true = sym (λ k. fits (operation k) (sum_unit k)) ∙ fit in
               absurd (cc)
 
-  -- of the children of the key above, one is the key
+  -- a key is the left or the right child of its parent
   above_is : (x : ℕ) → 1 ≤ x → (2 * (x / 2) ≡ x) ⊎ (2 * (x / 2) + 1 ≡ x)
   above_is x one = ⊎_elim (λ e. inl e) (λ no. inr (let odd = no in omega (arith, odd))) (cases_eq (2 * (x / 2)) x)
 

@@ -1,4 +1,4 @@
--- Who brings up each future, what is due to each unit, and where each unit runs.
+-- A future's label determines its creator, and a unit's label its due, home and needs.
 use Rattle.std.proofs.Common.{◌≡◌, ◌≢◌, ℕ, zero, suc, ◌+◌, ◌*◌, List, [], ◌∷◌, refl, sym, ap, ◌∙◌, subst, ⊎_elim, arith}
 use Rattle.std.specs.Prelude.{Option, Some, None, slice_get, Contains}
 use Rattle.app_core.specs.declared.label.Label.{Label}
@@ -27,8 +27,8 @@ of_counts P c h first zero l k = no_label l k
 of_counts P c h first (suc n) l k = ⊎_elim (λ e. subst P e (h first)) (λ m. of_counts P c h (suc first) n l m) (contains_cons (count_future c first) l (count_futures c (suc first) n) k)
 
 module _ (job : DistributedJob) where
-  raised_by_start : (o : Outline) (l : Label) → Starting job o → Contains (named o) l → creator l ≡ None
-  raised_by_start o l s h = go s.is
+  created_by_start : (o : Outline) (l : Label) → Starting job o → Contains (named o) l → creator l ≡ None
+  created_by_start o l s h = go s.is
     where
       go : IsStart job s.command s.i o → creator l ≡ None
       go (of_root w at tree i is) = one_label (λ l. creator l ≡ None) (key_future s.command 1) l refl (subst (λ (z : Outline). Contains (named z) l) (sym is) h)
@@ -39,21 +39,21 @@ module _ (job : DistributedJob) where
           (contains_cons (key_future s.command 1) l (count_futures s.command 0 job.ranks) (subst (λ (z : Outline). Contains (named z) l) (sym is) h))
 
   -- the futures of both children
-  abbrev RaisedBy : ℕ → ℕ → Label → Type 0
-  RaisedBy c x l = creator l ≡ Some (down_unit c x)
+  abbrev CreatedBy : ℕ → ℕ → Label → Type 0
+  CreatedBy c x l = creator l ≡ Some (down_unit c x)
 
-  raised_by_step : (p : Label) (os : List Outline) (i : ℕ) (o : Outline) (l : Label) → Allowed job p os → slice_get os i ≡ Some o → Contains (named o) l → due p ≢ Some l → creator l ≡ Some p
-  raised_by_step p os i o l m e h other = by_effect job (λ p o. (l : Label) → Contains (named o) l → due p ≢ Some l → creator l ≡ Some p) (record {
+  created_by_step : (p : Label) (os : List Outline) (i : ℕ) (o : Outline) (l : Label) → Allowed job p os → slice_get os i ≡ Some o → Contains (named o) l → due p ≢ Some l → creator l ≡ Some p
+  created_by_step p os i o l m e h other = by_effect job (λ p o. (l : Label) → Contains (named o) l → due p ≢ Some l → creator l ≡ Some p) (record {
     put = λ w a c x at fit puts_first l h other. no_label l h;
     rest = λ w c x at. record {
       stop = λ fit key l h other. no_label l h;
-      left = λ fit key l h other. one_label (RaisedBy c x) (key_future c (2 * x)) l (over_left (λ n. Some (down_unit c n)) None x (key (omega arith))) h;
-      right = λ fit key l h other. one_label (RaisedBy c x) (key_future c (2 * x + 1)) l (over_right (λ n. Some (down_unit c n)) None x (key (omega arith))) h;
+      left = λ fit key l h other. one_label (CreatedBy c x) (key_future c (2 * x)) l (over_left (λ n. Some (down_unit c n)) None x (key (omega arith))) h;
+      right = λ fit key l h other. one_label (CreatedBy c x) (key_future c (2 * x + 1)) l (over_right (λ n. Some (down_unit c n)) None x (key (omega arith))) h;
       above = λ fit key l h other. ⊎_elim
           (λ own. absurd (other (ap Some own)))
           (λ k. ⊎_elim
-          (λ left. subst (RaisedBy c x) left (over_left (λ n. Some (down_unit c n)) None x (key (omega arith))))
-          (λ k. one_label (RaisedBy c x) (key_future c (2 * x + 1)) l (over_right (λ n. Some (down_unit c n)) None x (key (omega arith))) k)
+          (λ left. subst (CreatedBy c x) left (over_left (λ n. Some (down_unit c n)) None x (key (omega arith))))
+          (λ k. one_label (CreatedBy c x) (key_future c (2 * x + 1)) l (over_right (λ n. Some (down_unit c n)) None x (key (omega arith))) k)
           (contains_cons (key_future c (2 * x)) l (key_future c (2 * x + 1) ∷ []) k))
           (contains_cons (key_future c x) l (key_future c (2 * x) ∷ key_future c (2 * x + 1) ∷ []) h);
       combine = λ fit key l h other. no_label l h;
@@ -66,7 +66,7 @@ module _ (job : DistributedJob) where
     };
   }) p os i o m e l h other
 
-  -- what the label of a unit that is spawned tells of it
+  -- the due, home and needs of a unit are those of its label
   abbrev IsTold : ℕ → Label → Option Label → List Label → ℕ → Type 0
   IsTold from u d ns h = (d ≡ due u) × (h ≡ home job u) × (ns ≡ needs job u) × (ns ≢ [] → h ≡ from)
 
@@ -107,8 +107,8 @@ module _ (job : DistributedJob) where
   module _ (may : Label → List Outline → Type 0) (within : MayIsAllowed job may) where
     pub futures : BringsUp (program job) may creator due
     futures = record {
-      starts = λ k o l e h. raised_by_start o l (starting job k o e) h;
-      steps = λ p os i o l m e h other. raised_by_step p os i o l (within p os m) e h other;
+      starts = λ k o l e h. created_by_start o l (starting job k o e) h;
+      steps = λ p os i o l m e h other. created_by_step p os i o l (within p os m) e h other;
       start_due = λ k u d ns h e. (told_by_start (of.Spawn u d ns h) (starting job k (of.Spawn u d ns h) e) u d ns h refl).0;
       step_due = λ p os i u d ns h m e. (told_by_step p os i (of.Spawn u d ns h) (within p os m) e u d ns h refl).0;
     }

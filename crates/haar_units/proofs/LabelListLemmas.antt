@@ -1,4 +1,4 @@
--- The labels that pass a test stand in their list, each once.
+-- The list of the labels that pass a test has each of them once, and no others.
 use Rattle.std.proofs.Common.{◌≡◌, ℕ, zero, suc, ◌<◌, Bool, true, false, List, [], ◌∷◌, refl, sym, ap, ◌∙◌, subst, inl, inr, ⊎_elim, arith}
 use Rattle.std.specs.Prelude.{if◌then◌else◌, Contains}
 use Rattle.std.proofs.lemmas.Bool.{cases_eq}
@@ -8,7 +8,7 @@ use Rattle.event_laws.proofs.MatchingListLemmas.{Has, Distinct, has_left, has_ri
 use Rattle.haar_units.specs.Units.{label}
 use Rattle.haar_units.specs.LabelLists.{labels_of_part, labels_of_command, labels_that_pass}
 
--- where a label stands
+-- a label of the list of one part
 record InRow (test : Label → Bool) (c p n : ℕ) (u : Label) : Type 0 where
   passes : test u ≡ true
   command : u.command ≡ c

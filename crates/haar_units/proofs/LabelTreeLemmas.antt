@@ -1,4 +1,4 @@
--- The labels of the units form a tree, and tell who brings up each future and where each unit runs.
+-- The labels of units form a tree, and units stay in their command.
 use Rattle.std.proofs.Common.{◌≡◌, ℕ, zero, suc, ◌+◌, ◌*◌, ◌/◌, ◌%◌, ◌<◌, ◌≤◌, Bool, true, List, refl, sym, ap, ◌∙◌, subst, ⊎_elim, arith}
 use Rattle.std.specs.Prelude.{if◌then◌else◌, nat_lt, Some, None, slice_get}
 use Rattle.std.proofs.lemmas.Bool.{lt-ltb, cond-true}
@@ -29,7 +29,7 @@ starting job k o e =
     let s = start_of_command (starts job) 1 (kinds job) k o e in
     record { command = 1 + s.0; i = s.1; is = start_is job (1 + s.0) s.1 o s.3 }
 
--- of a key behind the root
+-- of a key other than the root
 pub over : {A : Type 0} (f : ℕ → A) (none : A) (x y : ℕ) → 1 < y → y / 2 ≡ x → (if nat_lt 1 y then f (y / 2) else none) ≡ f x
 over f none x y lt half = cond-true (nat_lt 1 y) (f (y / 2)) none (lt-ltb 1 y lt) ∙ ap f half
 
@@ -39,7 +39,7 @@ over_left f none x one = over f none x (2 * x) (omega (arith, one)) (omega arith
 pub over_right : {A : Type 0} (f : ℕ → A) (none : A) (x : ℕ) → 1 ≤ x → (if nat_lt 1 (2 * x + 1) then f ((2 * x + 1) / 2) else none) ≡ f x
 over_right f none x one = over f none x (2 * x + 1) (omega (arith, one)) (omega arith)
 
--- what holds of the label that a spawn has
+-- what holds of the label of the unit that an outline spawns
 told : (f : Label → Type 0) (a u : Label) → f a → Some a ≡ Some u → f u
 told f a u h e = subst f (some_is a u e) h
 
@@ -89,7 +89,7 @@ module _ (job : DistributedJob) where
     };
   }) p os i o m e u
 
-  -- its place among the outlines
+  -- the index of its spawn among the outlines
   placed : (p : Label) (os : List Outline) (m : Allowed job p os) (i : ℕ) (o : Outline) (u : Label) → slice_get os i ≡ Some o → unit_of o ≡ Some u → i ≡ offset (puts_first m.operation m.action) + spawn_place u.part u.place
   unfolding spawn_place
   placed p os m i o u e unit = ⊎_elim

@@ -1,4 +1,4 @@
--- The keys of a shape, by their places, are the visited keys of a course.
+-- The keys of places, and traversals that visit the keys of a shape.
 use Rattle.std.proofs.Common.{◌≡◌, ◌≢◌, ◌⊎◌, ℕ, zero, suc, ◌+◌, ◌*◌, ◌/◌, ◌%◌, ◌^◌, ◌≤◌, ◌<◌, Bool, true, false, ◌&&◌, refl, sym, ap, ◌∙◌, subst, ⊎_elim, arith}
 use Rattle.std.specs.Prelude.{nat_lt, nat_le, ◌==◌, if◌then◌else◌, Some}
 use Rattle.std.proofs.lemmas.Bool.{cases_lt, both_ways, cond-true, cond-false, lt-ltb, le-ltb, ltb-true, leb-true, eq-eqb, ne_eqb, eqb-true, eqb-false, and_parts, and_from}
@@ -11,7 +11,7 @@ use Rattle.haar_units.specs.Jobs.Operation.{Coarsen}
 use Rattle.haar_units.specs.Traversals.{Traversal, IsTraversal}
 use Rattle.haar_units.specs.Places.{key_in, key_at, has_place, ShapesAreTraversals, MergesAreTraversals}
 
--- more steps than the place find the same key
+-- any number of steps that is large enough finds the same key
 steps_same : (n m x : ℕ) → x ≤ n → x ≤ m → key_in n x ≡ key_in m x
 steps_same zero zero x few less = refl
 steps_same zero (suc m) x few less = sym (cond-false (nat_lt 1 x) (child (key_in m (x / 2)) (x % 2 == 1)) root (le-ltb 1 x (omega (arith, few))))

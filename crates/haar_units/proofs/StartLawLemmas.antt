@@ -35,7 +35,7 @@ no_result c r = differ (key_future c 1) (count_future c r) (λ e. let z : 0 ≡ 
 no_count : (c r : ℕ) → same_label (count_future c r) (key_future c 1) ≡ false
 no_count c r = differ (count_future c r) (key_future c 1) (λ e. let z : 1 ≡ 0 = ap (λ (l : Label). l.part) e in omega (arith, z))
 
--- the future of one of these ranks
+-- the count future of one of these ranks
 record OfRank (c first n : ℕ) (l : Label) : Type 0 where
   r : ℕ
   from : first ≤ r
@@ -59,7 +59,7 @@ of_starts c first (suc n) s l h = ⊎_elim
     (λ k. ⊎_elim (λ o. inl (further c first n l o)) (λ k. inr k) (of_starts c (suc first) n s l k))
     (contains_cons (count_future c first) l _ h)
 
--- how many are due
+-- how many units have a due
 due_out : (c first n r : ℕ) (s : Outline) → r < first → has_due (count_future c r) s ≡ false → counts (has_due (count_future c r)) (count_starts c first n ++ s ∷ []) ≡ 0
 due_out c first zero r s lt e = λ i. if e i then 1 else 0
 due_out c first (suc n) r s lt e = (λ i. if other_rank c r first (λ z. omega (arith, z, lt)) i then 1 + counts (has_due (count_future c r)) (count_starts c (suc first) n ++ s ∷ []) else counts (has_due (count_future c r)) (count_starts c (suc first) n ++ s ∷ []))
@@ -84,10 +84,10 @@ result_due c first zero s k e = e
 result_due c first (suc n) s k e = (λ i. if no_result c first i then 1 + counts (has_due (key_future c 1)) (count_starts c (suc first) n ++ s ∷ []) else counts (has_due (key_future c 1)) (count_starts c (suc first) n ++ s ∷ []))
     ∙ result_due c (suc first) n s k e
 
--- the starts of counts need nothing
-need_behind : (l : Label) (c first n : ℕ) (s : Outline) → counts (has_need l) (count_starts c first n ++ s ∷ []) ≡ counts (has_need l) (s ∷ [])
-need_behind l c first zero s = refl
-need_behind l c first (suc n) s = need_behind l c (suc first) n s
+-- count units need nothing
+need_after : (l : Label) (c first n : ℕ) (s : Outline) → counts (has_need l) (count_starts c first n ++ s ∷ []) ≡ counts (has_need l) (s ∷ [])
+need_after l c first zero s = refl
+need_after l c first (suc n) s = need_after l c (suc first) n s
 
 needed : (c first n r : ℕ) → first ≤ r → r < first + n → list_any (λ m. same_label (count_future c r) m) (count_futures c first n) ≡ true
 needed c first zero r le lt = absurd (omega (arith, le, lt))
@@ -111,7 +111,7 @@ long : (c first n : ℕ) (s : Outline) → length (count_starts c first n ++ s �
 long c first zero s = refl
 long c first (suc n) s = let rest = long c (suc first) n s in omega (arith, rest)
 
--- the outlines keep the laws
+-- these outlines keep the laws on starts
 record Sound (job : DistributedJob) (c : ℕ) (os : List Outline) : Type 0 where
   names : (l : Label) → Names os l → l.command ≡ c
   due_once : (l : Label) → Names os l → IsDueOnce l os
@@ -149,9 +149,9 @@ sizing job c = record {
   due_once = by_name (λ l. IsDueOnce l (all_starts job c)) (λ r lt. sym (counts_are (has_due (count_future c r)) (all_starts job c)) ∙ due_in c 0 job.ranks r (sum_start job c) (omega arith) (omega (arith, lt)) (no_count c r))
       (sym (counts_are (has_due (key_future c 1)) (all_starts job c)) ∙ result_due c 0 job.ranks (sum_start job c) 1 (λ i. if same_label_refl (key_future c 1) i then 1 else 0));
   needed_once = λ l h other. by_name (λ l. key_future c 1 ≢ l → IsNeededOnce l (all_starts job c))
-      (λ r lt own. sym (counts_are (has_need (count_future c r)) (all_starts job c)) ∙ need_behind (count_future c r) c 0 job.ranks (sum_start job c) ∙ (λ i. if needed c 0 job.ranks r (omega arith) (omega (arith, lt)) i then 1 else 0))
+      (λ r lt own. sym (counts_are (has_need (count_future c r)) (all_starts job c)) ∙ need_after (count_future c r) c 0 job.ranks (sum_start job c) ∙ (λ i. if needed c 0 job.ranks r (omega arith) (omega (arith, lt)) i then 1 else 0))
       (λ own. absurd (own refl)) l h other;
-  never = sym (counts_are (has_need (key_future c 1)) (all_starts job c)) ∙ need_behind (key_future c 1) c 0 job.ranks (sum_start job c) ∙ (λ i. if unneeded c 0 job.ranks i then 1 else 0);
+  never = sym (counts_are (has_need (key_future c 1)) (all_starts job c)) ∙ need_after (key_future c 1) c 0 job.ranks (sum_start job c) ∙ (λ i. if unneeded c 0 job.ranks i then 1 else 0);
   at_zero = all_at c 0 job.ranks (sum_start job c) (λ some. refl);
   few = let n = long c 0 job.ranks (sum_start job c) in omega (arith, n);
 }

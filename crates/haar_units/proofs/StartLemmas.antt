@@ -15,7 +15,7 @@ count_start c r = of.Spawn (count_unit c r) (Some (count_future c r)) [] r
 abbrev pub sum_start : DistributedJob → ℕ → Outline
 sum_start job c = of.Spawn (sum_unit c) (Some (key_future c 1)) (count_futures c 0 job.ranks) 0
 
--- an outline is the start of a root, of a count, or of the sum
+-- a start spawns the down unit of the root, a count unit, or the sum unit
 pub data IsStart (job : DistributedJob) (c i : ℕ) (o : Outline) : Type 0 where
   of_root : (w : Operation) → operation_at job c ≡ Some w → is_on_trees w ≡ true → i ≡ 0 → spawn_down job c 1 ≡ o → IsStart job c i o
   of_count : operation_at job c ≡ Some Size → i < job.ranks → count_start c i ≡ o → IsStart job c i o

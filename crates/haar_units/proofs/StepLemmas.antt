@@ -22,44 +22,44 @@ other c x y n = false_from_ne_true (same_label (key_future c x) (key_future c y)
 abbrev one : Bool → ℕ
 one b = if b then 1 else 0
 
--- the same without a put in front
-count_behind : (test : Outline → Bool) (b : Bool) (n : CellName) (rest : List Outline) → test (of.Put n) ≡ false → count_by test (if b then of.Put n ∷ rest else rest) ≡ count_by test rest
-count_behind test true n rest e = λ i. fold (λ a x. a + one (test x)) (0 + one (e i)) rest
-count_behind test false n rest e = refl
+-- a put before the others changes nothing of what is counted
+count_after_put : (test : Outline → Bool) (b : Bool) (n : CellName) (rest : List Outline) → test (of.Put n) ≡ false → count_by test (if b then of.Put n ∷ rest else rest) ≡ count_by test rest
+count_after_put test true n rest e = λ i. fold (λ a x. a + one (test x)) (0 + one (e i)) rest
+count_after_put test false n rest e = refl
 
-all_behind : (P : Outline → Type 0) (b : Bool) (n : CellName) (rest : List Outline) → P (of.Put n) → AllByRecursion P rest → AllByRecursion P (if b then of.Put n ∷ rest else rest)
-all_behind P true n rest p h = (p, h)
-all_behind P false n rest p h = h
+all_after_put : (P : Outline → Type 0) (b : Bool) (n : CellName) (rest : List Outline) → P (of.Put n) → AllByRecursion P rest → AllByRecursion P (if b then of.Put n ∷ rest else rest)
+all_after_put P true n rest p h = (p, h)
+all_after_put P false n rest p h = h
 
-names_behind : (b : Bool) (n : CellName) (rest : List Outline) (l : Label) → Names (if b then of.Put n ∷ rest else rest) l → Names rest l
-names_behind true n rest l h = h
-names_behind false n rest l h = h
+names_after_put : (b : Bool) (n : CellName) (rest : List Outline) (l : Label) → Names (if b then of.Put n ∷ rest else rest) l → Names rest l
+names_after_put true n rest l h = h
+names_after_put false n rest l h = h
 
-touches_behind : (b : Bool) (n : CellName) (rest : List Outline) (m : CellName) → (Touches rest m → n ≡ m) → Touches (if b then of.Put n ∷ rest else rest) m → n ≡ m
-touches_behind true n rest m h (zero, lt, e) = e
-touches_behind true n rest m h (suc k, lt, e) = h (k, omega (arith, lt), e)
-touches_behind false n rest m h t = h t
+touches_after_put : (b : Bool) (n : CellName) (rest : List Outline) (m : CellName) → (Touches rest m → n ≡ m) → Touches (if b then of.Put n ∷ rest else rest) m → n ≡ m
+touches_after_put true n rest m h (zero, lt, e) = e
+touches_after_put true n rest m h (suc k, lt, e) = h (k, omega (arith, lt), e)
+touches_after_put false n rest m h t = h t
 
-few_behind : (b : Bool) (n : CellName) (rest : List Outline) → length rest ≤ 3 → length (if b then of.Put n ∷ rest else rest) ≤ 4
-few_behind true n rest h = omega (arith, h)
-few_behind false n rest h = omega (arith, h)
+few_after_put : (b : Bool) (n : CellName) (rest : List Outline) → length rest ≤ 3 → length (if b then of.Put n ∷ rest else rest) ≤ 4
+few_after_put true n rest h = omega (arith, h)
+few_after_put false n rest h = omega (arith, h)
 
 if_some : (d : Option Label) (P Q : Label → Type 0) → ((l : Label) → P l → Q l) → IfSome d P → IfSome d Q
 if_some None P Q f h = tt
 if_some (Some l) P Q f h = f l h
 
 module _ (job : DistributedJob) (c x : ℕ) where
-  -- with a put in front or not
+  -- the laws hold with a put before the others if they hold without
   with_put : (b : Bool) (p : Label) (rest : List Outline) → p.command ≡ c → p.place ≡ x → KeepsStepLaws job p rest → length rest ≤ 3 → KeepsStepLaws job p (if b then of.Put (entry c x) ∷ rest else rest)
   with_put b p rest command place s few = record {
-    seen_to = if_some (due p) (λ l. IsSeenToOnce l rest) (λ l. IsSeenToOnce l (if b then of.Put (entry c x) ∷ rest else rest)) (λ l h. count_behind (λ o. has_due l o || gives l o) b (entry c x) rest refl ∙ h) s.seen_to;
-    unneeded = if_some (due p) (λ l. IsNeededNever l rest) (λ l. IsNeededNever l (if b then of.Put (entry c x) ∷ rest else rest)) (λ l h. count_behind (has_need l) b (entry c x) rest refl ∙ h) s.unneeded;
-    gives = all_behind (GivesOnly (due p)) b (entry c x) rest tt s.gives;
-    due_once = λ l h own. count_behind (has_due l) b (entry c x) rest refl ∙ s.due_once l (names_behind b (entry c x) rest l h) own;
-    needed_once = λ l h own. count_behind (has_need l) b (entry c x) rest refl ∙ s.needed_once l (names_behind b (entry c x) rest l h) own;
-    stays = all_behind (NeedingRunsAt (home job p)) b (entry c x) rest tt s.stays;
-    touches = λ m h. let own : entry p.command p.place ≡ entry c x = (λ i. entry (command i) (place i)) in own ∙ touches_behind b (entry c x) rest m (λ t. sym own ∙ s.touches m t) h;
-    few = few_behind b (entry c x) rest few;
+    seen_to = if_some (due p) (λ l. IsSeenToOnce l rest) (λ l. IsSeenToOnce l (if b then of.Put (entry c x) ∷ rest else rest)) (λ l h. count_after_put (λ o. has_due l o || gives l o) b (entry c x) rest refl ∙ h) s.seen_to;
+    unneeded = if_some (due p) (λ l. IsNeededNever l rest) (λ l. IsNeededNever l (if b then of.Put (entry c x) ∷ rest else rest)) (λ l h. count_after_put (has_need l) b (entry c x) rest refl ∙ h) s.unneeded;
+    gives = all_after_put (GivesOnly (due p)) b (entry c x) rest tt s.gives;
+    due_once = λ l h own. count_after_put (has_due l) b (entry c x) rest refl ∙ s.due_once l (names_after_put b (entry c x) rest l h) own;
+    needed_once = λ l h own. count_after_put (has_need l) b (entry c x) rest refl ∙ s.needed_once l (names_after_put b (entry c x) rest l h) own;
+    stays = all_after_put (NeedingRunsAt (home job p)) b (entry c x) rest tt s.stays;
+    touches = λ m h. let own : entry p.command p.place ≡ entry c x = (λ i. entry (command i) (place i)) in own ∙ touches_after_put b (entry c x) rest m (λ t. sym own ∙ s.touches m t) h;
+    few = few_after_put b (entry c x) rest few;
   }
 
   no_entry : {A : Type 0} (m : CellName) → Contains [] m → A
@@ -68,7 +68,7 @@ module _ (job : DistributedJob) (c x : ℕ) where
   no_name : {A : Type 0} (l : Label) → Contains [] l → A
   no_name l h = absurd (none_in l h)
 
-  -- the list that gives a future alone
+  -- a list that only gives a future
   giving : (part : ℕ) (l : Label) (h : ℕ) → due (label c part x) ≡ Some l → KeepsStepLaws job (label c part x) (of.Give l h ∷ [])
   giving part l h d = record {
     seen_to = subst (λ (o : Option Label). IfSome o (λ due. IsSeenToOnce due (of.Give l h ∷ []))) (sym d) (λ i. 0 + one (same_label_refl l i));
@@ -104,7 +104,7 @@ module _ (job : DistributedJob) (c x : ℕ) where
     same : (y : ℕ) → same_label (key_future c y) (key_future c y) ≡ true
     same y = same_label_refl (key_future c y)
 
-    -- the futures that a unit names which visits children
+    -- the futures that a unit names that descends
     by_name : (P : Label → Type 0) → P (key_future c (2 * x)) → P (key_future c (2 * x + 1)) → (l : Label) → Names (rest_of job Descend c x) l → due (down_unit c x) ≢ Some l → P l
     by_name P left right l h own = ⊎_elim
         (λ e. subst P e left)

@@ -1,4 +1,4 @@
--- How many tasks and messages the commands before a fence make.
+-- A receipt counts the tasks and messages of the commands before its fence.
 use Rattle.std.proofs.Common.{◌≡◌, ℕ, zero, suc, ◌+◌, ◌-◌, ◌*◌, ◌/◌, ◌<◌, ◌≤◌, Bool, true, false, not, ◌&&◌, List, [], ◌∷◌, ◌++◌, length, refl, sym, ap, ◌∙◌, subst, ⊎_elim, arith}
 use Rattle.std.specs.Prelude.{if◌then◌else◌, nat_lt, ◌==◌, Option, Some, None, map, slice_get}
 use Rattle.std.proofs.lemmas.Bool.{and_parts, cases_lt, lt-ltb, ltb-true, ltb-false, eq-eqb, ne_eqb, eqb-true, eqb-false, false_from_ne_true}
@@ -31,7 +31,7 @@ use Rattle.haar_units.proofs.UnitLemmas.{known}
 use Rattle.haar_units.proofs.SumLemmas.{sum_ext, sum_add, sum_none, sum_front, sum_short, sum_pairs, sum_ones, sum_below, drop_it}
 use Rattle.haar_units.proofs.UnitSumLemmas.{weigh, sends_weigh, length_weighs, part_sum, five, weigh_listed, start_sum, starts_sent}
 
--- where two tests agree, and two numbers where they pass
+-- the same condition, and the same number if it holds
 cond_ext : (a b : Bool) (m n : ℕ) → a ≡ b → (b ≡ true → m ≡ n) → (if a then m else 0) ≡ (if b then n else 0)
 cond_ext a b m n e h = ap (λ (z : Bool). if z then m else 0) e ∙ go b (λ t. h t)
   where
@@ -50,9 +50,9 @@ eqb_turned a b = go (a == b) refl
     go true e = sym (eq-eqb b a (sym (eqb-true a b e)))
     go false e = sym (ne_eqb b a (λ s. eqb-false a b e (sym s)))
 
-sends_behind : (b : Bool) (n : CellName) (rest : List Outline) (r : ℕ) → sends_of r (if b then told_as.Put n ∷ rest else rest) ≡ sends_of r rest
-sends_behind true n rest r = omega arith
-sends_behind false n rest r = refl
+sends_after_put : (b : Bool) (n : CellName) (rest : List Outline) (r : ℕ) → sends_of r (if b then told_as.Put n ∷ rest else rest) ≡ sends_of r rest
+sends_after_put true n rest r = omega arith
+sends_after_put false n rest r = refl
 
 five_zero : (test : ℕ → ℕ → Bool) (value : ℕ → ℕ → ℕ) (n : ℕ) → ((p x : ℕ) → test p x ≡ false) → five test value n ≡ 0
 five_zero test value n h =
@@ -64,7 +64,7 @@ five_zero test value n h =
     let e = z 4 in
     omega (arith, a, b, c, d, e)
 
--- of a key that is visited or not, has visited children or not, and has erased children or not
+-- messages at one key, if it is visited, has visited children, has erased children
 by_cases : (p q r a b c : Bool) → (q ≡ true → p ≡ true) → (r ≡ true → q ≡ true)
     → (if p then (if q then one_if b + one_if c else one_if a) else 0) + (if p && q then (if r then one_if b + one_if c + one_if a else one_if a) else 0)
     ≡ one_if (p && a) + (one_if (q && b) + one_if (q && c) + (one_if (r && b) + one_if (r && c)))
@@ -76,7 +76,7 @@ by_cases false true r a b c f g = absurd (let z = f refl in cc)
 by_cases false false true a b c f g = absurd (let z = g refl in cc)
 by_cases false false false a b c f g = omega arith
 
--- units of another kind, which is the same
+-- the units of an equivalent kind
 comes_more : (program : List Doing) (plan : Label → List Outline) (Of Or : Label → Type 0) → ((u : Label) → Of u → Or u) → (u : Label) (q : ℕ) → Comes program (AsPlanned plan Of) u q → Comes program (AsPlanned plan Or) u q
 comes_more program plan Of Or f u q (started k _ d ns _ at) = started k u d ns q at
 comes_more program plan Of Or f u q (spawned p rank os i _ d ns _ c m at) = spawned p rank os i u d ns q (comes_more program plan Of Or f p rank c) (m.0, f p m.1) at
@@ -94,7 +94,7 @@ module _ (job : DistributedJob) (traversal : Traversal) (bound : ℕ) (one : 1 �
   abbrev A : ℕ → ℕ
   A x = one_if (changes_owner job x)
 
-  -- what the units of a key send
+  -- messages of the units of a key
 
   gives : (c x : ℕ) → 1 ≤ x → sends_of (job.owner x) (told_as.Give (key_future c x) (future_home job (key_future c x)) ∷ []) ≡ A x
   gives c x least = go (nat_lt 1 x) refl
@@ -132,7 +132,7 @@ module _ (job : DistributedJob) (traversal : Traversal) (bound : ℕ) (one : 1 �
     abbrev T : ℕ → ℕ → Bool
     T p x = of c && is_spawned job traversal (label c p x)
 
-    -- what a unit sends
+    -- messages of a unit
     abbrev S : ℕ → ℕ → ℕ
     S p x = sends_of (home job (label c p x)) (plan job traversal (label c p x))
 
@@ -143,7 +143,7 @@ module _ (job : DistributedJob) (traversal : Traversal) (bound : ℕ) (one : 1 �
     test_is p x = λ i. kind i && is_spawned_if job traversal (label c p x) (at i)
 
     sent : (p x : ℕ) → S p x ≡ sends_of (home_of job p x) (rest_of job (action_of traversal c p x) c x)
-    sent p x = ap (λ (o : Option Operation). sends_of (home_of job p x) (plan_if job traversal (label c p x) o)) at ∙ sends_behind (puts_first w (action_of traversal c p x)) (entry c x) (rest_of job (action_of traversal c p x) c x) (home_of job p x)
+    sent p x = ap (λ (o : Option Operation). sends_of (home_of job p x) (plan_if job traversal (label c p x) o)) at ∙ sends_after_put (puts_first w (action_of traversal c p x)) (entry c x) (rest_of job (action_of traversal c p x) c x) (home_of job p x)
 
     module _ (tree : is_on_trees w ≡ true) (k : IsTraversal job traversal bound c) where
       abbrev v : ℕ → Bool
@@ -279,7 +279,7 @@ module _ (job : DistributedJob) (traversal : Traversal) (bound : ℕ) (one : 1 �
           let few = sum_short E bound (2 * bound) (omega arith) below_erased in
           omega (arith, a, b, d, f, g, both, keys, first, second, pairs, more, short, few)
 
-    -- a command that counts
+    -- a `size`
 
     module _ (size : Size ≡ w) where
       size_test : (p x : ℕ) → T p x ≡ is_spawned_of job traversal Size c p x
@@ -288,7 +288,7 @@ module _ (job : DistributedJob) (traversal : Traversal) (bound : ℕ) (one : 1 �
       none_at : (value : ℕ → ℕ → ℕ) (p : ℕ) → ((x : ℕ) → is_spawned_of job traversal Size c p x ≡ false) → part_sum T value bound p ≡ 0
       none_at value p h = sum_none (λ x. if T p x then value p x else 0) bound (λ x lt. drop_it (T p x) (value p x) 0 (size_test p x ∙ h x))
 
-      -- the sum's unit is one
+      -- there is one sum unit
       sum_at : (value : ℕ → ℕ → ℕ) (n : ℕ) → value 4 1 ≡ n → part_sum T value bound 4 ≡ n
       sum_at value n is =
           let same : part_sum T value bound 4 ≡ sum_to (λ x. if x == 1 then value 4 x else 0) bound = sum_ext (λ x. if T 4 x then value 4 x else 0) (λ x. if x == 1 then value 4 x else 0) bound (λ x lt. ap (λ (b : Bool). if b then value 4 x else 0) (size_test 4 x)) in
@@ -310,7 +310,7 @@ module _ (job : DistributedJob) (traversal : Traversal) (bound : ℕ) (one : 1 �
           let g = sum_at U 1 refl in
           omega (arith, a, b, d, f, g)
 
-      -- of as many ranks all but the first send
+      -- each rank but rank 0 sends
       others : (f : ℕ → ℕ) (n : ℕ) → f 0 ≡ 0 → ((x : ℕ) → f (suc x) ≡ 1) → sum_to f n ≡ n - 1
       others f zero zero_is ones = refl
       others f (suc n) zero_is ones =
@@ -331,7 +331,7 @@ module _ (job : DistributedJob) (traversal : Traversal) (bound : ℕ) (one : 1 �
           let g = sum_at S 0 (sent 4 1) in
           omega (arith, a, b, d, f, g)
 
-  -- what the starts send
+  -- messages of the starts
 
   count_sends : (c first n : ℕ) (s : Outline) → sends_of 0 (count_starts c first n ++ s ∷ []) ≡ sum_to (λ x. one_if (not (first + x == 0))) n + sends_of 0 (s ∷ [])
   count_sends c first zero s = omega arith
@@ -470,7 +470,7 @@ module _ (job : DistributedJob) (may : Label → List Outline → Type 0) (withi
     traversals : (c : ℕ) (w : Operation) → early c ≡ true → operation_at job c ≡ Some w → is_on_trees w ≡ true → IsTraversal job traversal bound c
     traversals c w e at t = course_of c w (is_early c e) at t
 
-    -- a unit that comes up is of a command
+    -- a unit that is spawned is of a command
     exacts : (c : ℕ) → early c ≡ true → MayIsPlanned job traversal may c
     exacts c e p os is_c up_unit m = by_operation (operation_at job p.command) refl up_unit
       where

@@ -1,4 +1,4 @@
--- Of commands of a kind just the planned units come up, each at its home.
+-- For commands of a kind just the planned units are spawned, each at its home.
 use Rattle.std.proofs.Common.{◌≡◌, ◌⊎◌, ℕ, zero, suc, ◌+◌, ◌*◌, ◌/◌, ◌<◌, ◌≤◌, Bool, true, false, ◌&&◌, List, [], ◌∷◌, length, refl, sym, ap, ◌∙◌, subst, inl, inr, ⊎_elim, arith}
 use Rattle.std.specs.Prelude.{if◌then◌else◌, nat_lt, ◌==◌, Option, Some, None, map, slice_get, Contains}
 use Rattle.std.proofs.lemmas.Bool.{and_parts, and_from, cases_eq, lt-ltb, ltb-true, eqb-true, cond-true}
@@ -23,7 +23,7 @@ use Rattle.haar_units.proofs.LabelTreeLemmas.{Starting, starting, command_stays}
 use Rattle.haar_units.proofs.FutureLemmas.{places}
 use Rattle.haar_units.proofs.LabelListLemmas.{listed_apart, listed_passes, passes_listed}
 
--- the kind of a command, by its word
+-- the kind of a command, by its operation
 kind_at : (operations : List Operation) (c : ℕ) (w : Operation) → slice_get operations c ≡ Some w → slice_get (map kind_of operations) c ≡ Some (kind_of w)
 kind_at [] c w e = absurd (cc)
 kind_at (v ∷ operations) zero w e = ap (λ (z : Operation). Some (kind_of z)) (some_is v w e)
@@ -57,7 +57,7 @@ act_not false a o s e left right = right e
 
 module _ (job : DistributedJob) (may : Label → List Outline → Type 0) (traversal : Traversal) (of : ℕ → Bool) (bound : ℕ) (ranks : job.ranks ≤ bound) (two : 2 ≤ bound)
     (traversals : (c : ℕ) (w : Operation) → of c ≡ true → operation_at job c ≡ Some w → is_on_trees w ≡ true → IsTraversal job traversal bound c) (within : MayIsAllowed job may) (exact : (c : ℕ) → of c ≡ true → MayIsPlanned job traversal may c) where
-  -- a unit that comes up, by its word
+  -- a unit that is spawned, with its operation
   pub record Working (u : Label) : Type 0 where
     pub operation : Operation
     pub at : operation_at job u.command ≡ Some operation
@@ -76,7 +76,7 @@ module _ (job : DistributedJob) (may : Label → List Outline → Type 0) (trave
   pub plan_is : (w : Operation) (c part x : ℕ) (a : Action) → operation_at job c ≡ Some w → action_of traversal c part x ≡ a → plan job traversal (label c part x) ≡ outlines_of job w a c x
   plan_is w c part x a at action = ap (plan_if job traversal (label c part x)) at ∙ ap (λ (z : Action). outlines_of job w z c x) action
 
-  -- what comes up is planned
+  -- each unit that is spawned is a planned one
 
   act_split : (c part x : ℕ) → action_of traversal c part x ≡ Descend → (part ≡ 0) × (traversal.visits c (2 * x) ≡ true)
   act_split c zero x e = (refl, act_if (traversal.visits c (2 * x)) Descend Stop Descend e (λ n. cc))
@@ -166,7 +166,7 @@ module _ (job : DistributedJob) (may : Label → List Outline → Type 0) (trave
       (λ later. spawn_comes w.operation p.command p.place here w.at p.part w.is_spawned (action_at traversal p) later.0 (told_as.Spawn u d ns q) later.2 refl u refl)
       (first_or_later (puts_first w.operation (action_at traversal p)) (told_as.Put (entry p.command p.place)) (rest_of job (action_at traversal p) p.command p.place) i (told_as.Spawn u d ns q) (subst (λ (z : List Outline). slice_get z i ≡ Some (told_as.Spawn u d ns q)) lists at))
 
-  -- and what is planned comes up
+  -- each planned unit is spawned
 
   abbrev ByPlan : Label → List Outline → Type 0
   ByPlan = AsPlanned (plan job traversal) (λ u. of u.command ≡ true)
@@ -185,7 +185,7 @@ module _ (job : DistributedJob) (may : Label → List Outline → Type 0) (trave
       spawned (label c part x) q (outlines_of job w a c x) (offset (puts_first w a) + j) u d ns k above (sym (plan_is w c part x a at action), kind)
       (after_put (puts_first w a) (told_as.Put (entry c x)) (rest_of job a c x) j (told_as.Spawn u d ns k) e)
 
-  -- each key is the root, or a child
+  -- each key is the root or a child
   data Place (x : ℕ) : Type 0 where
     at_root : 1 ≡ x → Place x
     at_left : (y : ℕ) → 1 ≤ y → y < x → 2 * y ≡ x → Place x
@@ -263,7 +263,7 @@ module _ (job : DistributedJob) (may : Label → List Outline → Type 0) (trave
       subst (λ (z : ℕ). Comes (program job) ByPlan (label c 4 z) 0) one (begun c w at (inr p.0) job.ranks (sum_unit c) (Some (key_future c 1)) (count_futures c 0 job.ranks) 0 (sum_there job c (at ∙ ap Some (sizes w p.0))))
   planned w c (suc (suc (suc (suc (suc part))))) x kind at h = absurd (cc)
 
-  -- their labels are few
+  -- the labels of planned units are within the bounds of their list
 
   command_few : (c : ℕ) (w : Operation) → operation_at job c ≡ Some w → c < suc (length job.operations)
   command_few zero w at = omega arith
@@ -294,7 +294,7 @@ module _ (job : DistributedJob) (may : Label → List Outline → Type 0) (trave
   pub among_is : (u : Label) → Contains (units job traversal of bound) u → (of u.command ≡ true) × (is_spawned job traversal u ≡ true)
   among_is u h = and_parts (of u.command) (is_spawned job traversal u) (listed_passes test (suc (length job.operations)) 5 bound u h)
 
-  -- the plan of a unit that comes up is allowed
+  -- the plan of a planned unit is allowed
   pub plan_allowed : (u : Label) → of u.command ≡ true → is_spawned job traversal u ≡ true → Allowed job u (plan job traversal u)
   plan_allowed u kind h =
       let w = working u h in

@@ -1,4 +1,4 @@
--- What the listed labels weigh together, and what the starts of a program send.
+-- Sums over the units of a list, and the messages of a program's starts.
 use Rattle.std.proofs.Common.{◌≡◌, ℕ, zero, suc, ◌+◌, Bool, true, false, List, [], ◌∷◌, ◌++◌, length, refl, sym, ap, ◌∙◌, subst, arith}
 use Rattle.std.specs.Prelude.{if◌then◌else◌, nat_lt, Some, map, slice_get}
 use Rattle.std.proofs.lemmas.Bool.{lt-ltb, le-ltb, ltb-true, ltb-false}
@@ -39,7 +39,7 @@ weigh_row w test c p (suc x) = go (weigh_row w test c p x) (test (label c p x))
     go e true = ap (λ (n : ℕ). w (label c p x) + n) e
     go e false = omega (arith, e)
 
--- of a command, part by part
+-- the sum over the units of one command, part by part
 abbrev pub part_sum : (ℕ → ℕ → Bool) → (ℕ → ℕ → ℕ) → ℕ → ℕ → ℕ
 part_sum test value n part = sum_to (λ x. if test part x then value part x else 0) n
 
@@ -68,7 +68,7 @@ weigh_listed w test (suc c) n =
     let b = weigh_five w test c n in
     omega (arith, a, b, rest)
 
--- starts
+-- messages of starts
 
 sends_append : (e : ℕ) (xs : List Outline) (ds : List Doing) → start_sends (suc e) (map Start xs ++ ds) ≡ sends_of 0 xs + start_sends (suc e) ds
 sends_append e [] ds = omega arith

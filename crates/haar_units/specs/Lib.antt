@@ -1,12 +1,12 @@
 pub mod Actions
 pub mod Bins
 pub mod Decisions
-pub mod Example
 pub mod Jobs
 pub mod LabelLists
 pub mod Laws
 pub mod ListLaws
 pub mod Places
+pub mod SmallJob
 pub mod Starts
 pub mod StepLaws
 pub mod Totals

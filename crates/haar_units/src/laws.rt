@@ -1,8 +1,6 @@
 //! What holds of the units of commands on trees: each function's contract is a law, and its body is empty.
 ghost use Rattle.haar_units.specs.Laws.{LabelsFormATree, FuturesHaveOneCreator, UnitsArePlaced, EntriesArePutOnce, EntriesAreErasedOnce, ErasersWait, LabelsTellTheFences, CommandsAreBeforeTheFence, UnitsAreKnown};
-ghost use Rattle.std.specs.Prelude.{◌≡◌, [], ◌∷◌};
-ghost use Rattle.haar_units.specs.Totals.{ReceiptsCountTheTotals, total_of};
-ghost use Rattle.haar_units.specs.Example.{job, traversal};
+ghost use Rattle.haar_units.specs.Totals.{ReceiptsCountTheTotals};
 ghost use Rattle.haar_units.specs.StepLaws.{StepsKeepTheLaws, StartsKeepTheLaws};
 ghost use Rattle.app_core.specs.Given.{Given};
 ghost use Rattle.app_core.specs.Inputs.{Fits, AreRightInputs};
@@ -10,7 +8,7 @@ ghost use Rattle.app_core.specs.Outlines.{outlines};
 ghost use Rattle.haar_units.specs.Decisions.{DecidedStepsAreAllowed};
 ghost use Rattle.haar_units.specs.Places.{ShapesAreTraversals, MergesAreTraversals};
 ghost use Rattle.haar_units.specs.ListLaws.{RunsKeepTheLaws};
-ghost use Rattle.haar_units.specs.Bins.{BinsAreHeld, PlacesAreDifferent, holds};
+ghost use Rattle.haar_units.specs.Bins.{BinsAreHeld, PlacesAreDifferent};
 
 use app_core::{App, Facts};
 
@@ -74,14 +72,4 @@ pub fn shapes_are_traversals()
 /// Whatever overflows, every run keeps the laws on lists of events that speak of labels, futures and entries.
 pub fn runs_keep_the_laws<A: Facts>()
     ensures { (app : A) → RunsKeepTheLaws (A.may_do app) }
-{}
-
-/// The totals and the entries of a small job, worked out by hand: 4 tasks and 2 messages of `project`, 6 and 3 of `coarsen`,
-/// 3 and 2 of `size`; and the root is left.
-pub fn totals_of_a_small_job()
-    ensures first_fence { total_of job traversal 4 1 ≡ (5, 10) }
-    ensures end { total_of job traversal 4 2 ≡ (7, 13) }
-    ensures projected { holds job traversal 4 0 1 ≡ 2 ∷ 1 ∷ [] }
-    ensures coarsened { holds job traversal 4 0 2 ≡ 1 ∷ [] }
-    ensures elsewhere { holds job traversal 4 1 2 ≡ [] }
 {}

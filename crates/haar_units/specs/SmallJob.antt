@@ -1,0 +1,16 @@
+-- A small job for examples that were computed by hand. A tree of the keys 1, 2, 3, 6 and 7 is projected; it is coarsened, which
+-- erases 6 and 7; after a fence its keys are counted. There are two ranks, and rank 1 owns the keys 2 and 7.
+use Rattle.std.specs.Prelude.{ℕ, Bool, ◌&&◌, ◌||◌, nat_lt, ◌==◌, if◌then◌else◌, [], ◌∷◌}
+use Rattle.haar_units.specs.Jobs.{DistributedJob}
+use Rattle.haar_units.specs.Jobs.Operation.{Project, Coarsen, Size, Fence}
+use Rattle.haar_units.specs.Traversals.{Traversal}
+
+abbrev pub small_job : DistributedJob
+small_job = record { operations = Project ∷ Coarsen ∷ Fence ∷ Size ∷ []; ranks = 2; owner = λ place. if (place == 2) || (place == 7) then 1 else 0 }
+
+-- the keys of the tree that is projected
+abbrev pub is_key : ℕ → Bool
+is_key place = (nat_lt 0 place && nat_lt place 4) || ((place == 6) || (place == 7))
+
+abbrev pub small_traversal : Traversal
+small_traversal = record { visits = λ command place. nat_lt command 3 && is_key place; erases = λ command place. (command == 2) && ((place == 6) || (place == 7)) }

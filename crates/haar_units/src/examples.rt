@@ -1,0 +1,153 @@
+//! Examples that were computed by hand: each function's contract is one, and its body is empty.
+//!
+//! `small_job` projects a tree of the keys 1, 2, 3, 6 and 7, coarsens it, which erases 6 and 7, and after a fence counts
+//! its keys. There are two ranks, and rank 1 owns the keys 2 and 7.
+ghost use Rattle.std.specs.Prelude.{◌≡◌, ℕ, List, [], ◌∷◌, ◌==◌, Some, None};
+ghost use Rattle.app_core.specs.declared.label.Label.{Label as LabelData};
+ghost use Rattle.app_core.specs.declared.label.CellName.{CellName as CellNameData};
+ghost use Rattle.app_core.specs.declared.outline.Outline.TheVariants as of;
+ghost use Rattle.app_core.specs.declared.outline.CommandKind.TheVariants as is;
+ghost use Rattle.event_laws.specs.Follows.{Start, Wait};
+ghost use Rattle.haar_units.specs.Jobs.{kinds};
+ghost use Rattle.haar_units.specs.Units.{label, down_unit, up_unit, erase_unit, count_unit, sum_unit, key_future, count_future, entry, parent, due, needs, home, creator, future_home};
+ghost use Rattle.haar_units.specs.Starts.{starts, program};
+ghost use Rattle.haar_units.specs.Traversals.{plan, is_spawned, units};
+ghost use Rattle.haar_units.specs.Bins.{writer_of, holds};
+ghost use Rattle.haar_units.specs.Laws.{stage};
+ghost use Rattle.haar_units.specs.Totals.{total_of};
+ghost use Rattle.haar_units.specs.SmallJob.{small_job, small_traversal};
+
+/// The labels of units and futures, and the names of entries, by their numbers.
+fn labels_have_parts()
+    ensures down { down_unit 2 6 ≡ record { command = 2; part = 0; place = 6 } }
+    ensures up { up_unit 2 3 ≡ record { command = 2; part = 1; place = 3 } }
+    ensures erase { erase_unit 2 7 ≡ record { command = 2; part = 2; place = 7 } }
+    ensures count { count_unit 4 1 ≡ record { command = 4; part = 3; place = 1 } }
+    ensures sum { sum_unit 4 ≡ record { command = 4; part = 4; place = 1 } }
+    ensures of_key { key_future 2 6 ≡ record { command = 2; part = 0; place = 6 } }
+    ensures of_count { count_future 4 1 ≡ record { command = 4; part = 1; place = 1 } }
+    ensures entry { entry 2 6 ≡ record { version = 2; place = 6 } }
+{}
+
+/// Which unit spawns a unit: the down unit of the parent's key, the down unit of the key, the up unit of the parent's
+/// key; and none spawns the first unit of a command, or one of `size`.
+fn labels_determine_parents()
+    ensures down { parent (down_unit 2 7) ≡ Some (down_unit 2 3) }
+    ensures left { parent (down_unit 2 6) ≡ Some (down_unit 2 3) }
+    ensures root { parent (down_unit 2 1) ≡ None }
+    ensures up { parent (up_unit 2 3) ≡ Some (down_unit 2 3) }
+    ensures erase { parent (erase_unit 2 7) ≡ Some (up_unit 2 3) }
+    ensures count { parent (count_unit 4 1) ≡ None }
+    ensures sum { parent (sum_unit 4) ≡ None }
+{}
+
+/// Which future a unit fulfils, and which it needs.
+fn labels_determine_dues_and_needs()
+    ensures down { due (down_unit 2 6) ≡ Some (key_future 2 6) }
+    ensures up { due (up_unit 2 3) ≡ Some (key_future 2 3) }
+    ensures erase { due (erase_unit 2 7) ≡ None }
+    ensures count { due (count_unit 4 1) ≡ Some (count_future 4 1) }
+    ensures sum { due (sum_unit 4) ≡ Some (key_future 4 1) }
+    ensures down_needs { needs small_job (down_unit 2 3) ≡ [] }
+    ensures up_needs { needs small_job (up_unit 2 3) ≡ key_future 2 6 ∷ key_future 2 7 ∷ [] }
+    ensures erase_needs { needs small_job (erase_unit 2 7) ≡ [] }
+    ensures count_needs { needs small_job (count_unit 4 1) ≡ [] }
+    ensures sum_needs { needs small_job (sum_unit 4) ≡ count_future 4 0 ∷ count_future 4 1 ∷ [] }
+{}
+
+/// Where a unit runs: at the owner of its key, at the rank that it counts, or at rank 0.
+fn labels_determine_homes()
+    ensures down { home small_job (down_unit 2 7) ≡ 1 }
+    ensures up { home small_job (up_unit 2 3) ≡ 0 }
+    ensures erase { home small_job (erase_unit 2 7) ≡ 1 }
+    ensures other { home small_job (erase_unit 2 6) ≡ 0 }
+    ensures count { home small_job (count_unit 4 1) ≡ 1 }
+    ensures sum { home small_job (sum_unit 4) ≡ 0 }
+{}
+
+/// Which unit creates a future, and which rank keeps it: the owner of the parent of its key, or rank 0.
+fn futures_have_creators_and_homes()
+    ensures left { creator (key_future 2 6) ≡ Some (down_unit 2 3) }
+    ensures right { creator (key_future 2 7) ≡ Some (down_unit 2 3) }
+    ensures result { creator (key_future 2 1) ≡ None }
+    ensures count { creator (count_future 4 1) ≡ None }
+    ensures kept_above { future_home small_job (key_future 2 7) ≡ 0 }
+    ensures kept_at_two { future_home small_job (key_future 2 5) ≡ 1 }
+    ensures kept_result { future_home small_job (key_future 2 1) ≡ 0 }
+    ensures kept_count { future_home small_job (count_future 4 1) ≡ 0 }
+{}
+
+/// What each command starts, and so what rank 0's main does: it starts the first units of the first two commands, waits,
+/// starts those of `size`, and waits at the end.
+fn commands_start_units()
+    ensures kinds { kinds small_job ≡ is.Work ∷ is.Work ∷ is.Fence ∷ is.Work ∷ [] }
+    ensures project { starts small_job 1 ≡ of.Spawn (down_unit 1 1) (Some (key_future 1 1)) [] 0 ∷ [] }
+    ensures fence { starts small_job 3 ≡ [] }
+    ensures size { starts small_job 4 ≡ of.Spawn (count_unit 4 0) (Some (count_future 4 0)) [] 0 ∷ of.Spawn (count_unit 4 1) (Some (count_future 4 1)) [] 1
+        ∷ of.Spawn (sum_unit 4) (Some (key_future 4 1)) (count_future 4 0 ∷ count_future 4 1 ∷ []) 0 ∷ [] }
+    ensures no_command { starts small_job 5 ≡ [] }
+    ensures program { program small_job ≡ Start (of.Spawn (down_unit 1 1) (Some (key_future 1 1)) [] 0) ∷ Start (of.Spawn (down_unit 2 1) (Some (key_future 2 1)) [] 0) ∷ Wait
+        ∷ Start (of.Spawn (count_unit 4 0) (Some (count_future 4 0)) [] 0) ∷ Start (of.Spawn (count_unit 4 1) (Some (count_future 4 1)) [] 1)
+        ∷ Start (of.Spawn (sum_unit 4) (Some (key_future 4 1)) (count_future 4 0 ∷ count_future 4 1 ∷ []) 0) ∷ Wait ∷ [] }
+{}
+
+/// What the units of `project` do: a down unit puts its node, and gives its due if it stops, or spawns the units of both
+/// children and the one that takes over its due.
+fn project_puts_on_the_way_down()
+    ensures stop { plan small_job small_traversal (down_unit 1 7) ≡ of.Put (entry 1 7) ∷ of.Give (key_future 1 7) 0 ∷ [] }
+    ensures descend { plan small_job small_traversal (down_unit 1 1) ≡ of.Put (entry 1 1) ∷ of.Spawn (down_unit 1 2) (Some (key_future 1 2)) [] 1
+        ∷ of.Spawn (down_unit 1 3) (Some (key_future 1 3)) [] 0 ∷ of.Spawn (up_unit 1 1) (Some (key_future 1 1)) (key_future 1 2 ∷ key_future 1 3 ∷ []) 0 ∷ [] }
+    ensures combine { plan small_job small_traversal (up_unit 1 3) ≡ of.Give (key_future 1 3) 0 ∷ [] }
+{}
+
+/// What the units of `coarsen` do: the node is put where the tree ends, or by an up unit; one that merges has both
+/// children erased, each at its owner.
+fn coarsen_puts_on_the_way_up()
+    ensures stop { plan small_job small_traversal (down_unit 2 2) ≡ of.Put (entry 2 2) ∷ of.Give (key_future 2 2) 0 ∷ [] }
+    ensures descend { plan small_job small_traversal (down_unit 2 3) ≡ of.Spawn (down_unit 2 6) (Some (key_future 2 6)) [] 0
+        ∷ of.Spawn (down_unit 2 7) (Some (key_future 2 7)) [] 1 ∷ of.Spawn (up_unit 2 3) (Some (key_future 2 3)) (key_future 2 6 ∷ key_future 2 7 ∷ []) 0 ∷ [] }
+    ensures merge { plan small_job small_traversal (up_unit 2 3) ≡ of.Put (entry 2 3) ∷ of.Spawn (erase_unit 2 6) None [] 0
+        ∷ of.Spawn (erase_unit 2 7) None [] 1 ∷ of.Give (key_future 2 3) 0 ∷ [] }
+    ensures combine { plan small_job small_traversal (up_unit 2 1) ≡ of.Put (entry 2 1) ∷ of.Give (key_future 2 1) 0 ∷ [] }
+    ensures erase { plan small_job small_traversal (erase_unit 2 7) ≡ of.Erase (entry 2 7) ∷ [] }
+{}
+
+/// What the units of `size` do: they give counts to rank 0, and their sum is the result.
+fn size_gives_counts()
+    ensures count { plan small_job small_traversal (count_unit 4 1) ≡ of.Give (count_future 4 1) 0 ∷ [] }
+    ensures sum { plan small_job small_traversal (sum_unit 4) ≡ of.Give (key_future 4 1) 0 ∷ [] }
+{}
+
+/// The units of each command, and fences before them: 7 of `project`, 9 of `coarsen`, 3 of `size`.
+fn units_are_listed()
+    ensures project { units small_job small_traversal (λ command. command == 1) 8 ≡ up_unit 1 3 ∷ up_unit 1 1
+        ∷ down_unit 1 7 ∷ down_unit 1 6 ∷ down_unit 1 3 ∷ down_unit 1 2 ∷ down_unit 1 1 ∷ [] }
+    ensures coarsen { units small_job small_traversal (λ command. command == 2) 8 ≡ erase_unit 2 7 ∷ erase_unit 2 6 ∷ up_unit 2 3 ∷ up_unit 2 1
+        ∷ down_unit 2 7 ∷ down_unit 2 6 ∷ down_unit 2 3 ∷ down_unit 2 2 ∷ down_unit 2 1 ∷ [] }
+    ensures fence { units small_job small_traversal (λ command. command == 3) 8 ≡ [] }
+    ensures size { units small_job small_traversal (λ command. command == 4) 8 ≡ sum_unit 4 ∷ count_unit 4 1 ∷ count_unit 4 0 ∷ [] }
+    ensures early { stage small_job (up_unit 2 3) ≡ 0 }
+    ensures late { stage small_job (sum_unit 4) ≡ 1 }
+{}
+
+/// Which command writes a version, and which of its entries each rank holds: all keys of the projected tree; without the
+/// erased ones after `coarsen`.
+fn ranks_hold_entries()
+    ensures project { writer_of small_job 1 ≡ Some 1 }
+    ensures coarsen { writer_of small_job 2 ≡ Some 2 }
+    ensures fence { writer_of small_job 3 ≡ None }
+    ensures size { writer_of small_job 4 ≡ None }
+    ensures none { writer_of small_job 0 ≡ None }
+    ensures projected { holds small_job small_traversal 8 0 1 ≡ 6 ∷ 3 ∷ 1 ∷ [] }
+    ensures projected_elsewhere { holds small_job small_traversal 8 1 1 ≡ 7 ∷ 2 ∷ [] }
+    ensures coarsened { holds small_job small_traversal 8 0 2 ≡ 3 ∷ 1 ∷ [] }
+    ensures coarsened_elsewhere { holds small_job small_traversal 8 1 2 ≡ 2 ∷ [] }
+{}
+
+/// The numbers of messages and of tasks. `project` has 5 + 2 tasks, and sends 4 messages: the units of 2 and 7, and what
+/// they give. `coarsen` has 5 + 2 + 2 and sends 5, one of them the unit that erases 7. `size` has 3 and sends 2.
+fn totals_of_a_small_job()
+    ensures first_fence { total_of small_job small_traversal 8 1 ≡ (9, 16) }
+    ensures end { total_of small_job small_traversal 8 2 ≡ (11, 19) }
+    ensures before { total_of small_job small_traversal 8 0 ≡ (0, 0) }
+{}
