@@ -7,6 +7,7 @@ pub mod LabelListLemmas
 pub mod LabelTreeLemmas
 pub mod ListLawLemmas
 pub mod PlaceLemmas
+pub mod ShapeLemmas
 pub mod StartLawLemmas
 pub mod StartLemmas
 pub mod StepLemmas

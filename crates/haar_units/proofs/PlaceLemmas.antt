@@ -1,15 +1,12 @@
--- The keys of places, and traversals that visit the keys of a shape.
-use Rattle.std.proofs.Common.{◌≡◌, ◌≢◌, ◌⊎◌, ℕ, zero, suc, ◌+◌, ◌*◌, ◌/◌, ◌%◌, ◌^◌, ◌≤◌, ◌<◌, Bool, true, false, ◌&&◌, refl, sym, ap, ◌∙◌, subst, ⊎_elim, arith}
-use Rattle.std.specs.Prelude.{nat_lt, nat_le, ◌==◌, if◌then◌else◌, Some}
-use Rattle.std.proofs.lemmas.Bool.{cases_lt, both_ways, cond-true, cond-false, lt-ltb, le-ltb, ltb-true, leb-true, eq-eqb, ne_eqb, eqb-true, eqb-false, and_parts, and_from}
+-- The keys of places.
+use Rattle.std.proofs.Common.{◌≡◌, ◌≢◌, ◌⊎◌, ℕ, zero, suc, ◌+◌, ◌*◌, ◌/◌, ◌%◌, ◌^◌, ◌≤◌, ◌<◌, Bool, true, false, refl, sym, ap, ◌∙◌, ⊎_elim, arith}
+use Rattle.std.specs.Prelude.{nat_lt, nat_le, ◌==◌, if◌then◌else◌}
+use Rattle.std.proofs.lemmas.Bool.{cases_lt, cond-true, cond-false, lt-ltb, le-ltb, ltb-true, leb-true, eq-eqb, ne_eqb, eqb-true, eqb-false, and_parts}
 use Rattle.std.proofs.lemmas.Nat.{pow-add}
 use Rattle.std.proofs.Math.Pow.{pow_mono}
 use Rattle.tree_key.specs.Keys.{Key, root, child, place_of}
-use Rattle.tree_model.specs.Shapes.{IsShape, is_key_of}
-use Rattle.haar_units.specs.Jobs.{DistributedJob, operation_at}
-use Rattle.haar_units.specs.Jobs.Operation.{Coarsen}
-use Rattle.haar_units.specs.Traversals.{Traversal, IsTraversal}
-use Rattle.haar_units.specs.Places.{key_in, key_at, has_place, ShapesAreTraversals, MergesAreTraversals}
+use Rattle.tree_model.specs.Shapes.{is_key_of}
+use Rattle.haar_units.specs.Places.{key_in, key_at, PlacesHaveKeys, KeysHavePlaces}
 
 -- any number of steps that is large enough finds the same key
 steps_same : (n m x : ℕ) → x ≤ n → x ≤ m → key_in n x ≡ key_in m x
@@ -34,14 +31,14 @@ child_at x (suc y) side least half odd =
     ∙ ap (λ (k : Key). child k (suc y % 2 == 1)) (steps_same y (suc y / 2) (suc y / 2) few below)
     ∙ (λ i. child (key_at (half i)) (odd i))
 
-left_at : (x : ℕ) → 1 ≤ x → key_at (2 * x) ≡ child (key_at x) false
+pub left_at : (x : ℕ) → 1 ≤ x → key_at (2 * x) ≡ child (key_at x) false
 left_at x least = child_at x (2 * x) false least (omega arith) (ne_eqb (2 * x % 2) 1 (λ e. omega (arith, e)))
 
-right_at : (x : ℕ) → 1 ≤ x → key_at (2 * x + 1) ≡ child (key_at x) true
+pub right_at : (x : ℕ) → 1 ≤ x → key_at (2 * x + 1) ≡ child (key_at x) true
 right_at x least = child_at x (2 * x + 1) true least (omega arith) (eq-eqb ((2 * x + 1) % 2) 1 (omega arith))
 
 -- the place of the key of a place
-place_in : (n x : ℕ) → x ≤ n → 1 ≤ x → place_of (key_in n x) ≡ x
+pub place_in : (n x : ℕ) → x ≤ n → 1 ≤ x → place_of (key_in n x) ≡ x
 place_in zero x few least = absurd (omega (arith, few, least))
 place_in (suc n) x few least = go (λ a b. place_in n (x / 2) a b) (cases_lt 1 x)
   where
@@ -57,7 +54,7 @@ place_in (suc n) x few least = go (λ a b. place_in n (x / 2) a b) (cases_lt 1 x
         (λ lt. ap place_of (cond-true (nat_lt 1 x) (child (key_in n (x / 2)) (x % 2 == 1)) root (lt-ltb 1 x lt)) ∙ of_child (key_in n (x / 2)) (x % 2 == 1) (rec (omega (arith, few, lt)) (omega (arith, lt))) refl)
         (λ one. ap place_of (cond-false (nat_lt 1 x) (child (key_in n (x / 2)) (x % 2 == 1)) root (le-ltb 1 x one)) ∙ (let is : 1 ≡ x = omega (arith, one, least) in is))
 
-place_below : (depth : ℕ) (k : Key) → is_key_of depth k ≡ true → place_of k < 2 ^ (depth + 1)
+pub place_below : (depth : ℕ) (k : Key) → is_key_of depth k ≡ true → place_of k < 2 ^ (depth + 1)
 place_below depth k e =
     let p = and_parts (nat_le k.level depth) (nat_lt k.at (2 ^ k.level)) e in
     let level = leb-true k.level depth p.0 in
@@ -66,54 +63,44 @@ place_below depth k e =
     let next : 2 ^ (depth + 1) ≡ 2 ^ depth * 2 = pow-add 2 depth 1 in
     omega (arith, at, more, next)
 
-module _ (job : DistributedJob) (traversal : Traversal) (depth command : ℕ) (shape : Key → Bool) (is : IsShape depth shape) (visits : (place : ℕ) → traversal.visits command place ≡ has_place shape place) where
-  parts : (x : ℕ) → traversal.visits command x ≡ true → (1 ≤ x) × (shape (key_at x) ≡ true)
-  parts x v = let p = and_parts (nat_lt 0 x) (shape (key_at x)) (sym (visits x) ∙ v) in (let lt = ltb-true 0 x p.0 in omega (arith, lt), p.1)
-
-  to : (x : ℕ) → 1 ≤ x → shape (key_at x) ≡ true → traversal.visits command x ≡ true
-  to x least e = visits x ∙ and_from (nat_lt 0 x) (shape (key_at x)) (lt-ltb 0 x (omega (arith, least))) e
-
-  sides : (x : ℕ) → 1 ≤ x → has_place shape (2 * x + 1) ≡ has_place shape (2 * x)
-  sides x least =
-      let l = lt-ltb 0 (2 * x) (omega (arith, least)) in
-      let r = lt-ltb 0 (2 * x + 1) (omega arith) in
-      (λ i. r i && shape (right_at x least i)) ∙ is.children (key_at x) ∙ sym (λ i. l i && shape (left_at x least i))
-
-  shaped : ((x : ℕ) → traversal.erases command x ≡ true → operation_at job command ≡ Some Coarsen) → ((x : ℕ) → traversal.erases command x ≡ true → (2 ≤ x) × (traversal.visits command x ≡ true)) → ((x : ℕ) → 1 ≤ x → traversal.erases command (2 * x + 1) ≡ traversal.erases command (2 * x))
-      → IsTraversal job traversal (2 ^ (depth + 1)) command
-  shaped by visited both = record {
-    visits_below = λ x v. let h = parts x v in (h.0, subst (λ (n : ℕ). n < 2 ^ (depth + 1)) (place_in x x (omega arith) h.0) (place_below depth (key_at x) (is.keys (key_at x) h.1)));
-    root = visits 1 ∙ is.root;
-    parents = λ x v. ⊎_elim
-        (λ none. absurd (let zero_is : 2 * x ≡ 0 = omega (arith, none) in let h = parts (2 * x) v in let some = h.0 in omega (arith, some, zero_is)))
-        (λ some. let h = parts (2 * x) v in to x (omega (arith, some)) (is.parents (key_at x) false (ap shape (sym (left_at x (omega (arith, some)))) ∙ h.1)))
-        (cases_lt x 1);
-    children = λ x least. visits (2 * x + 1) ∙ sides x least ∙ sym (visits (2 * x));
-    erases_in_coarsen = by;
-    erases_visited = visited;
-    erases_both = both;
-  }
-
-pub shapes : ShapesAreTraversals
-shapes job traversal depth command shape is visits erases = shaped job traversal depth command shape is visits
-    (λ x e. absurd (both_ways (traversal.erases command x) (erases x) e))
-    (λ x e. absurd (both_ways (traversal.erases command x) (erases x) e))
-    (λ x least. erases (2 * x + 1) ∙ sym (erases (2 * x)))
-
-pub merged : MergesAreTraversals
-merged job traversal depth command shape merges is operation visits erases = shaped job traversal depth command shape is visits
-    (λ x e. operation)
-    (λ x e.
-    let p = and_parts (nat_lt 1 x) (has_place shape x && merges (key_at (x / 2))) (sym (erases x) ∙ e) in
-    let q = and_parts (has_place shape x) (merges (key_at (x / 2))) p.1 in
-    let lt = ltb-true 1 x p.0 in
-    (omega (arith, lt), visits x ∙ q.0))
-    (λ x least. erases (2 * x + 1) ∙ both x least ∙ sym (erases (2 * x)))
+-- the key of a place has a translation of its level
+at_in : (n x : ℕ) → (key_in n x).at < 2 ^ (key_in n x).level
+at_in zero x = omega arith
+at_in (suc n) x = go (nat_lt 1 x) (at_in n (x / 2))
   where
-    both : (x : ℕ) → 1 ≤ x → (nat_lt 1 (2 * x + 1) && (has_place shape (2 * x + 1) && merges (key_at ((2 * x + 1) / 2)))) ≡ (nat_lt 1 (2 * x) && (has_place shape (2 * x) && merges (key_at (2 * x / 2))))
-    both x least =
-        let r = lt-ltb 1 (2 * x + 1) (omega (arith, least)) in
-        let l = lt-ltb 1 (2 * x) (omega (arith, least)) in
-        let odd : (2 * x + 1) / 2 ≡ x = omega arith in
-        let even : 2 * x / 2 ≡ x = omega arith in
-        (λ i. r i && (sides job traversal depth command shape is visits x least i && merges (key_at (odd i)))) ∙ sym (λ i. l i && (has_place shape (2 * x) && merges (key_at (even i))))
+    go : (b : Bool) → (key_in n (x / 2)).at < 2 ^ (key_in n (x / 2)).level → (if b then child (key_in n (x / 2)) (x % 2 == 1) else root).at < 2 ^ (if b then child (key_in n (x / 2)) (x % 2 == 1) else root).level
+    go true lt = by_side (x % 2 == 1)
+      where
+        by_side : (side : Bool) → (child (key_in n (x / 2)) side).at < 2 ^ (child (key_in n (x / 2)) side).level
+        by_side true = let power : 2 ^ ((key_in n (x / 2)).level + 1) ≡ 2 ^ (key_in n (x / 2)).level * 2 = pow-add 2 (key_in n (x / 2)).level 1 in omega (arith, lt, power)
+        by_side false = let power : 2 ^ ((key_in n (x / 2)).level + 1) ≡ 2 ^ (key_in n (x / 2)).level * 2 = pow-add 2 (key_in n (x / 2)).level 1 in omega (arith, lt, power)
+    go false lt = omega arith
+
+pub places_have_keys : PlacesHaveKeys
+places_have_keys x least = (place_in x x (omega arith) least, at_in x x)
+
+-- keys of one place are of one level
+not_above : (a b : Key) → a.at < 2 ^ a.level → place_of a ≡ place_of b → b.level ≤ a.level
+not_above a b fits same = ⊎_elim (λ lt. go lt) (λ le. le) (cases_lt a.level b.level)
+  where
+    go : a.level < b.level → b.level ≤ a.level
+    go lt =
+        let le : a.level + 1 ≤ b.level = omega (arith, lt) in
+        let more : 2 ^ (a.level + 1) ≤ 2 ^ b.level = pow_mono le in
+        let power : 2 ^ (a.level + 1) ≡ 2 ^ a.level * 2 = pow-add 2 a.level 1 in
+        absurd (omega (arith, fits, same, more, power))
+
+same_key : (a b : Key) → a.at < 2 ^ a.level → b.at < 2 ^ b.level → place_of a ≡ place_of b → a ≡ b
+same_key a b fits fit same =
+    let one = not_above a b fits same in
+    let two = not_above b a fit (sym same) in
+    let level : a.level ≡ b.level = omega (arith, one, two) in
+    let power : 2 ^ a.level ≡ 2 ^ b.level = ap (λ (n : ℕ). 2 ^ n) level in
+    let at : a.at ≡ b.at = omega (arith, same, power) in
+    λ i. record { level = level i; at = at i }
+
+pub keys_have_places : KeysHavePlaces
+keys_have_places k fits =
+    let least : 1 ≤ place_of k = let some : 1 ≤ 2 ^ k.level = pow_mono {i = 0} {j = k.level} (omega arith) in omega (arith, some) in
+    let p = places_have_keys (place_of k) least in
+    same_key (key_at (place_of k)) k p.1 fits p.0

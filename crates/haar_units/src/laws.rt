@@ -6,7 +6,7 @@ ghost use Rattle.app_core.specs.Given.{Given};
 ghost use Rattle.app_core.specs.Inputs.{Fits, AreRightInputs};
 ghost use Rattle.app_core.specs.Outlines.{outlines};
 ghost use Rattle.haar_units.specs.Decisions.{DecidedStepsAreAllowed};
-ghost use Rattle.haar_units.specs.Places.{ShapesAreTraversals, MergesAreTraversals};
+ghost use Rattle.haar_units.specs.Places.{PlacesHaveKeys, KeysHavePlaces, ShapesAreTraversals, MergesAreTraversals};
 ghost use Rattle.haar_units.specs.ListLaws.{RunsKeepTheLaws};
 ghost use Rattle.haar_units.specs.Bins.{BinsAreHeld, PlacesAreDifferent};
 
@@ -60,6 +60,12 @@ pub fn decided_steps_are_allowed<A: App>()
         (λ unit given. AreRightInputs (A.right_value app) (A.right_cell app) (A.right_size app)
         (A.needs_of app unit) (A.reads_of app unit) (A.counts_of app unit) (A.home_of app unit (A.ranks_of app)) given)
         (λ unit given. outlines (A.label_of app) (A.due_of app) (A.home_of app) (A.kept_at app) (A.ranks_of app) (A.step_of app unit given)) }
+{}
+
+/// Each place from 1 has one key, and each key is the key of its place.
+pub fn places_are_of_keys()
+    ensures keys { PlacesHaveKeys }
+    ensures places { KeysHavePlaces }
 {}
 
 /// The keys of a shape, by their places, are what a command may visit; and what `coarsen` may erase are those below keys of

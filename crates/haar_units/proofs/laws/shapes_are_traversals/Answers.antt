@@ -1,4 +1,4 @@
-use Rattle.haar_units.proofs.PlaceLemmas.{shapes, merged}
+use Rattle.haar_units.proofs.ShapeLemmas.{shapes, merged}
 use Rattle.haar_units.proofs.laws.shapes_are_traversals.Goals as goal
 
 pub returns-clause-shapes : goal.returns-clause-shapes
