@@ -15,8 +15,8 @@ use Rattle.haar_units.specs.Starts.{program, starts}
 use Rattle.haar_units.specs.Jobs.Operation.{Coarsen, Size, Fence}
 use Rattle.haar_units.specs.Actions.{Action, part_of, fits, puts_first, rest_of, outlines_of, Allowed}
 use Rattle.haar_units.specs.Actions.Action.{Stop, Descend, Combine, Merge}
-use Rattle.haar_units.specs.Traversals.{Traversal, IsTraversal, MayIsPlanned, action_of, action_at, plan_if, plan, is_spawned_of, is_spawned_if, is_spawned, units}
-use Rattle.haar_units.specs.Laws.{MayIsAllowed}
+use Rattle.haar_units.specs.Traversals.{Traversal, IsTraversal, MayIsPlanned, action_of, action_at, plan_if, plan, is_spawned_of, is_spawned_if, is_spawned, DoesPlan, units}
+use Rattle.haar_units.specs.Laws.{MayIsAllowed, PlansAreAllowed}
 use Rattle.haar_units.proofs.EffectLemmas.{some_is, none_is, by_rest, offset, first_or_later, after_put}
 use Rattle.haar_units.proofs.StartLemmas.{IsStart, of_root, of_count, of_sum, root_there, count_there, sum_there}
 use Rattle.haar_units.proofs.LabelTreeLemmas.{Starting, starting, command_stays}
@@ -344,3 +344,30 @@ module _ (job : DistributedJob) (may : Label → List Outline → Type 0) (trave
       at_home : (u : Label) (q : ℕ) → Comes (program job) may u q → q ≡ home job u
       at_home u q (started k _ d ns _ at) = ((places job may within).starts k u d ns q at).0
       at_home u q (spawned p rank os i _ d ns _ c m at) = ((places job may within).steps p os i u d ns q m at).0
+
+-- a traversal with places below a bound has them below a larger one
+wider : (job : DistributedJob) (traversal : Traversal) (bound more command : ℕ) → bound ≤ more → IsTraversal job traversal bound command → IsTraversal job traversal more command
+wider job traversal bound more command le k = record {
+  visits_below = λ place v. let b = k.visits_below place v in (b.0, let lt = b.1 in omega (arith, lt, le));
+  root = k.root;
+  parents = k.parents;
+  children = k.children;
+  erases_in_coarsen = k.erases_in_coarsen;
+  erases_visited = k.erases_visited;
+  erases_both = k.erases_both;
+}
+
+-- the planned units do what is allowed
+pub plans_allowed : PlansAreAllowed
+plans_allowed job traversal bound traversals = (allowed, λ command p os c h m. m.1)
+  where
+    nothing : Label → List Outline → Type 0
+    nothing p os = ⊥
+
+    more : ℕ
+    more = bound + job.ranks + 2
+
+    allowed : (p : Label) (os : List Outline) → DoesPlan job traversal p os → Allowed job p os
+    allowed p os m = subst (λ (z : List Outline). Allowed job p z) (sym m.1)
+        (plan_allowed job nothing traversal (λ c. true) more (omega arith) (omega arith) (λ c w kind at tree. wider job traversal bound more c (omega arith) (traversals c w at tree))
+        (λ p os m. absurd m) (λ c kind p os is h m. absurd m) p refl m.0)

@@ -10,7 +10,7 @@ use Rattle.haar_units.specs.Jobs.{Operation, DistributedJob, operation_at, is_on
 use Rattle.haar_units.specs.Units.{parent, creator, due, needs, home}
 use Rattle.haar_units.specs.Starts.{program}
 use Rattle.haar_units.specs.Actions.{Allowed}
-use Rattle.haar_units.specs.Traversals.{Traversal, IsTraversal, MayIsPlanned, plan, units}
+use Rattle.haar_units.specs.Traversals.{Traversal, IsTraversal, MayIsPlanned, DoesPlan, plan, units}
 
 -- a unit may do only what its label allows
 abbrev pub MayIsAllowed : DistributedJob → (Label → List Outline → Type 0) → Type 0
@@ -63,3 +63,10 @@ UnitsAreKnown may =
     → ((command : ℕ) (operation : Operation) → kind command ≡ true → operation_at job command ≡ Some operation → is_on_trees operation ≡ true → IsTraversal job traversal bound command)
     → ((command : ℕ) → kind command ≡ true → MayIsPlanned job traversal may command)
     → AreUnits (program job) may (λ u. kind u.command ≡ true) (plan job traversal) (home job) (units job traversal kind bound)
+
+-- what is planned is allowed, if each command visits a shape: so the premises above are met
+abbrev pub PlansAreAllowed : Type 0
+PlansAreAllowed =
+    (job : DistributedJob) (traversal : Traversal) (bound : ℕ)
+    → ((command : ℕ) (operation : Operation) → operation_at job command ≡ Some operation → is_on_trees operation ≡ true → IsTraversal job traversal bound command)
+    → MayIsAllowed job (DoesPlan job traversal) × ((command : ℕ) → MayIsPlanned job traversal (DoesPlan job traversal) command)

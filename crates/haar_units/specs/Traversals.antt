@@ -64,6 +64,10 @@ is_spawned job traversal u = is_spawned_if job traversal u (operation_at job u.c
 abbrev pub MayIsPlanned : DistributedJob → Traversal → (Label → List Outline → Type 0) → ℕ → Type 0
 MayIsPlanned job traversal may command = (p : Label) (os : List Outline) → p.command ≡ command → is_spawned job traversal p ≡ true → may p os → os ≡ plan job traversal p
 
+-- a unit that is spawned does just what is planned
+abbrev pub DoesPlan : DistributedJob → Traversal → Label → List Outline → Type 0
+DoesPlan job traversal p os = (is_spawned job traversal p ≡ true) × (os ≡ plan job traversal p)
+
 -- the labels of the units that are spawned for the commands of a kind, with places below a bound
 abbrev pub units : DistributedJob → Traversal → (ℕ → Bool) → ℕ → List Label
 units job traversal of bound = labels_that_pass (λ u. of u.command && is_spawned job traversal u) (suc (length job.operations)) 5 bound

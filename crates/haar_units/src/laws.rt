@@ -1,5 +1,5 @@
 //! What holds of the units of commands on trees: each function's contract is a law, and its body is empty.
-ghost use Rattle.haar_units.specs.Laws.{LabelsFormATree, FuturesHaveOneCreator, UnitsArePlaced, EntriesArePutOnce, EntriesAreErasedOnce, ErasersWait, LabelsTellTheFences, CommandsAreBeforeTheFence, UnitsAreKnown};
+ghost use Rattle.haar_units.specs.Laws.{LabelsFormATree, FuturesHaveOneCreator, UnitsArePlaced, EntriesArePutOnce, EntriesAreErasedOnce, ErasersWait, LabelsTellTheFences, CommandsAreBeforeTheFence, UnitsAreKnown, PlansAreAllowed};
 ghost use Rattle.haar_units.specs.Totals.{ReceiptsCountTheTotals};
 ghost use Rattle.haar_units.specs.StepLaws.{StepsKeepTheLaws, StartsKeepTheLaws};
 ghost use Rattle.app_core.specs.Given.{Given};
@@ -31,6 +31,11 @@ pub fn entries_are_put_and_erased_once<A: Facts>()
 pub fn units_are_known<A: Facts>()
     ensures of_fence { (app : A) → CommandsAreBeforeTheFence (A.may_do app) }
     ensures units { (app : A) → UnitsAreKnown (A.may_do app) }
+{}
+
+/// What is planned is allowed, where each command visits a shape. So the premises of the laws are met by what is planned.
+pub fn plans_are_allowed()
+    ensures { PlansAreAllowed }
 {}
 
 /// Behind a receipt the bins hold, of the version of a command before the fence and before the first that overflows, just
