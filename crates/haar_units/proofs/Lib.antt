@@ -8,6 +8,7 @@ pub mod LabelTreeLemmas
 pub mod ListLawLemmas
 pub mod PlaceLemmas
 pub mod ShapeLemmas
+pub mod SmallJobLemmas
 pub mod StartLawLemmas
 pub mod StartLemmas
 pub mod StepLemmas

@@ -1,8 +1,8 @@
 -- A small job for examples that were computed by hand. A tree of the keys 1, 2, 3, 6 and 7 is projected; it is coarsened, which
 -- erases 6 and 7; after a fence its keys are counted. There are two ranks, and rank 1 owns the keys 2 and 7.
-use Rattle.std.specs.Prelude.{ℕ, Bool, ◌&&◌, ◌||◌, nat_lt, ◌==◌, if◌then◌else◌, [], ◌∷◌}
-use Rattle.haar_units.specs.Jobs.{DistributedJob}
-use Rattle.haar_units.specs.Jobs.Operation.{Project, Coarsen, Size, Fence}
+use Rattle.std.specs.Prelude.{ℕ, Bool, List, ◌&&◌, ◌||◌, nat_lt, ◌==◌, if◌then◌else◌, [], ◌∷◌}
+use Rattle.haar_units.specs.Jobs.{Operation, DistributedJob}
+use Rattle.haar_units.specs.Jobs.Operation.{Project, Refine, Coarsen, Compress, Reconstruct, Add, Mul, Inner, Print, Size, Fence}
 use Rattle.haar_units.specs.Traversals.{Traversal}
 
 abbrev pub small_job : DistributedJob
@@ -14,3 +14,7 @@ is_key place = (nat_lt 0 place && nat_lt place 4) || ((place == 6) || (place == 
 
 abbrev pub small_traversal : Traversal
 small_traversal = record { visits = λ command place. nat_lt command 3 && is_key place; erases = λ command place. (command == 2) && ((place == 6) || (place == 7)) }
+
+-- each operation, in the order of their definition
+abbrev pub all_operations : List Operation
+all_operations = Project ∷ Refine ∷ Coarsen ∷ Compress ∷ Reconstruct ∷ Add ∷ Mul ∷ Inner ∷ Print ∷ Size ∷ Fence ∷ []

@@ -2,20 +2,22 @@
 //!
 //! `small_job` projects a tree of the keys 1, 2, 3, 6 and 7, coarsens it, which erases 6 and 7, and after a fence counts
 //! its keys. There are two ranks, and rank 1 owns the keys 2 and 7.
-ghost use Rattle.std.specs.Prelude.{◌≡◌, ℕ, List, [], ◌∷◌, ◌==◌, Some, None};
-ghost use Rattle.app_core.specs.declared.label.Label.{Label as LabelData};
-ghost use Rattle.app_core.specs.declared.label.CellName.{CellName as CellNameData};
+ghost use Rattle.std.specs.Prelude.{◌≡◌, ℕ, ◌≤◌, true, false, List, [], ◌∷◌, ◌==◌, map, Some, None};
+ghost use Rattle.app_core.specs.declared.outline.Outline.{Outline as OutlineData};
 ghost use Rattle.app_core.specs.declared.outline.Outline.TheVariants as of;
 ghost use Rattle.app_core.specs.declared.outline.CommandKind.TheVariants as is;
 ghost use Rattle.event_laws.specs.Follows.{Start, Wait};
-ghost use Rattle.haar_units.specs.Jobs.{kinds};
+ghost use Rattle.haar_units.specs.Jobs.{Operation, operation_at, is_on_trees, is_size, is_coarsen, puts_down, puts_up, kind_of, kinds};
 ghost use Rattle.haar_units.specs.Units.{label, down_unit, up_unit, erase_unit, count_unit, sum_unit, key_future, count_future, entry, parent, due, needs, home, creator, future_home};
 ghost use Rattle.haar_units.specs.Starts.{starts, program};
-ghost use Rattle.haar_units.specs.Traversals.{plan, is_spawned, units};
+ghost use Rattle.haar_units.specs.Traversals.{IsTraversal, plan, units};
+ghost use Rattle.haar_units.specs.Actions.{Allowed};
 ghost use Rattle.haar_units.specs.Bins.{writer_of, holds};
 ghost use Rattle.haar_units.specs.Laws.{stage};
 ghost use Rattle.haar_units.specs.Totals.{total_of};
-ghost use Rattle.haar_units.specs.SmallJob.{small_job, small_traversal};
+ghost use Rattle.tree_key.specs.Keys.{root};
+ghost use Rattle.haar_units.specs.Places.{key_at, has_place};
+ghost use Rattle.haar_units.specs.SmallJob.{all_operations, small_job, small_traversal};
 
 /// The labels of units and futures, and the names of entries, by their numbers.
 fn labels_have_parts()
@@ -27,6 +29,16 @@ fn labels_have_parts()
     ensures of_key { key_future 2 6 ≡ record { command = 2; part = 0; place = 6 } }
     ensures of_count { count_future 4 1 ≡ record { command = 4; part = 1; place = 1 } }
     ensures entry { entry 2 6 ≡ record { version = 2; place = 6 } }
+{}
+
+/// Which operations visit keys, and whether their units put nodes on the way down or on the way up.
+fn operations_put_nodes()
+    ensures kinds { map kind_of all_operations ≡ is.Work ∷ is.Work ∷ is.Work ∷ is.Work ∷ is.Work ∷ is.Work ∷ is.Work ∷ is.Work ∷ is.Work ∷ is.Work ∷ is.Fence ∷ [] }
+    ensures on_trees { map is_on_trees all_operations ≡ true ∷ true ∷ true ∷ true ∷ true ∷ true ∷ true ∷ true ∷ true ∷ false ∷ false ∷ [] }
+    ensures down { map puts_down all_operations ≡ true ∷ true ∷ false ∷ false ∷ true ∷ true ∷ true ∷ false ∷ false ∷ false ∷ false ∷ [] }
+    ensures up { map puts_up all_operations ≡ false ∷ false ∷ true ∷ true ∷ false ∷ false ∷ false ∷ false ∷ false ∷ false ∷ false ∷ [] }
+    ensures coarsen { map is_coarsen all_operations ≡ false ∷ false ∷ true ∷ false ∷ false ∷ false ∷ false ∷ false ∷ false ∷ false ∷ false ∷ [] }
+    ensures size { map is_size all_operations ≡ false ∷ false ∷ false ∷ false ∷ false ∷ false ∷ false ∷ false ∷ false ∷ true ∷ false ∷ [] }
 {}
 
 /// Which unit spawns a unit: the down unit of the parent's key, the down unit of the key, the up unit of the parent's
@@ -150,4 +162,41 @@ fn totals_of_a_small_job()
     ensures first_fence { total_of small_job small_traversal 8 1 ≡ (9, 16) }
     ensures end { total_of small_job small_traversal 8 2 ≡ (11, 19) }
     ensures before { total_of small_job small_traversal 8 0 ≡ (0, 0) }
+{}
+
+/// Keys of places. Place 0 has no key, so no set of keys has it.
+fn places_name_keys()
+    ensures root { key_at 1 ≡ root }
+    ensures left { key_at 6 ≡ record { level = 2; at = 2 } }
+    ensures right { key_at 7 ≡ record { level = 2; at = 3 } }
+    ensures deep { key_at 21 ≡ record { level = 4; at = 5 } }
+    ensures none { has_place (λ k. true) 0 ≡ false }
+    ensures some { has_place (λ k. k.level == 2) 6 ≡ true }
+    ensures other { has_place (λ k. k.level == 2) 3 ≡ false }
+{}
+
+/// The small job's commands visit shapes. So the laws speak of it.
+fn the_small_job_visits_shapes()
+    ensures { (command : ℕ) (operation : Operation) → operation_at small_job command ≡ Some operation → is_on_trees operation ≡ true → IsTraversal small_job small_traversal 8 command }
+{}
+
+/// After an overflow units may do other things than what is planned: stop above the leaves, or leave both children of a
+/// key where they are.
+fn other_actions_are_allowed()
+    ensures stop { Allowed small_job (down_unit 1 3) (of.Put (entry 1 3) ∷ of.Give (key_future 1 3) 0 ∷ []) }
+    ensures combine { Allowed small_job (up_unit 2 3) (of.Put (entry 2 3) ∷ of.Give (key_future 2 3) 0 ∷ []) }
+{}
+
+/// But no unit of `project` gives its future without a put or before it, or puts the entry of another key, or has
+/// children erased; a unit of `coarsen` has both children erased, or none. A fence has no units; and no units have
+/// parts from 5 on, or place 0 where the place is of a key.
+fn some_lists_are_not_allowed()
+    ensures no_put { Allowed small_job (down_unit 1 7) (of.Give (key_future 1 7) 0 ∷ []) → ⊥ }
+    ensures put_last { Allowed small_job (down_unit 1 7) (of.Give (key_future 1 7) 0 ∷ of.Put (entry 1 7) ∷ []) → ⊥ }
+    ensures put_of_parent { Allowed small_job (down_unit 1 7) (of.Put (entry 1 3) ∷ of.Give (key_future 1 7) 0 ∷ []) → ⊥ }
+    ensures merge_of_project { Allowed small_job (up_unit 1 3) (of.Put (entry 1 3) ∷ of.Spawn (erase_unit 1 6) None [] 0 ∷ of.Spawn (erase_unit 1 7) None [] 1 ∷ of.Give (key_future 1 3) 0 ∷ []) → ⊥ }
+    ensures half_merge { Allowed small_job (up_unit 2 3) (of.Put (entry 2 3) ∷ of.Spawn (erase_unit 2 6) None [] 0 ∷ of.Give (key_future 2 3) 0 ∷ []) → ⊥ }
+    ensures no_fence { (part place : ℕ) (os : List OutlineData) → Allowed small_job (label 3 part place) os → ⊥ }
+    ensures no_parts { (part place : ℕ) (os : List OutlineData) → 5 ≤ part → Allowed small_job (label 2 part place) os → ⊥ }
+    ensures no_place { (os : List OutlineData) → Allowed small_job (down_unit 2 0) os → ⊥ }
 {}
