@@ -1,0 +1,13 @@
+pub mod Items
+pub mod Stopping
+pub mod Moves
+pub mod Seats
+pub mod Makes
+pub mod Lanes
+pub mod Opens
+pub mod Counts
+pub mod Steps
+pub mod Events
+pub mod Carries
+pub mod OneEach
+pub mod Ends
