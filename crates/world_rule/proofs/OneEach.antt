@@ -33,7 +33,7 @@ use Rattle.event_lists.proofs.FenceLemmas.{receipt_lasts}
 use Rattle.event_lists.proofs.OwnLemmas.{dues_last, reads_last, fences_last}
 use Rattle.event_laws.specs.Follows.{TaskEffects, Doing, Wait, Goes, program_at, deeds}
 use Rattle.world_rule.specs.declared.view.Owed.{Owed}
-use Rattle.world_rule.specs.Views.{mark, is_gone, Made, numbered, own_part, took}
+use Rattle.world_rule.specs.Views.{IsCounted, mark, is_gone, Made, numbered, own_part, took}
 use Rattle.world_rule.specs.Kept.{place, word_at, DrawnCounts, IsDrawn, Owing, Kept, Tells, effect_of, Turn}
 use Rattle.world_rule.proofs.Items.{made_message, made_task, made_times, counted_or_drawn}
 use Rattle.world_rule.proofs.Counts.{words_same, words_add, stop_same, stop_add}
@@ -101,6 +101,10 @@ read_numbered handlings n v f p = refl
 read_numbered runs n v f p = refl
 read_numbered submissions n v f p = refl
 read_numbered sends n v f p = refl
+
+pub counted_item : (p : Pending) → IsCounted p → (c : Item) × (p ≡ Counted c)
+counted_item (Counted c) h = (c, refl)
+counted_item (Drawn f) h = absurd h
 
 -- what was counted was made
 counted_made : (task_effects : TaskEffects) (drawn : DrawnCounts) (o : Owed) (log : List Mark) → Owing task_effects drawn o log → ((f : EffectName) → o.pending ≡ Drawn f → ⊥) → Made o log
@@ -215,11 +219,11 @@ module _ (ranks workers : ℕ) (program : List Doing) (may : Label → List Outl
 
   -- what the seat owes is taken in hand
   pub takes_one : (o : Owed) → me.0.owes ≡ Some o → o.to ≡ l.rank → (c : Item) → o.pending ≡ Counted c → in_hand mine ≡ None → Made o me.0.told
-      → NeedsKnown c me.0.told me.0.seen
-      → Allows (Kept ranks workers program may) slots id me 0 (λ n. n) (Tells ranks workers program may l (took c) None me)
+      → NeedsKnown (Counted c) me.0.told me.0.seen
+      → Allows (Kept ranks workers program may) slots id me 0 (λ n. n) (Tells ranks workers program may l (took (Counted c)) None me)
   takes_one o owes there c is idle made given = by_item c is given
     where
-      by_item : (c : Item) → o.pending ≡ Counted c → NeedsKnown c me.0.told me.0.seen → Allows (Kept ranks workers program may) slots id me 0 (λ n. n) (Tells ranks workers program may l (took c) None me)
+      by_item : (c : Item) → o.pending ≡ Counted c → NeedsKnown (Counted c) me.0.told me.0.seen → Allows (Kept ranks workers program may) slots id me 0 (λ n. n) (Tells ranks workers program may l (took (Counted c)) None me)
       by_item (Message r n) is _ = takes_message o r n owes is there idle
       by_item (Task r n) is given = takes_task o r n owes is there idle (made_times o me.0.told made (Task r n) is) given
 

@@ -133,10 +133,21 @@ no_lane = record { rank = 0; bin = false; number = 0 }
 abbrev pub no_event : Event
 no_event = Enter 0
 
+-- a message or a task
+abbrev pub IsCounted : Pending → Type 0
+IsCounted (Counted c) = Unit {0}
+IsCounted (Drawn f) = ⊥
+
 -- the event that takes a message or task in hand
-abbrev pub took : Item → Event
-took (Message r n) = TookMessage r n
-took (Task r n) = TookTask r n
+abbrev pub took : Pending → Event
+took (Counted (Message r n)) = TookMessage r n
+took (Counted (Task r n)) = TookTask r n
+took (Drawn f) = no_event
+
+-- the message or task that is pending
+abbrev pub item_in : Pending → Option Item
+item_in (Counted c) = Some c
+item_in (Drawn f) = None
 
 -- the event and the outline of a put, or of an erase
 abbrev pub stored_event : Bool → CellName → Event

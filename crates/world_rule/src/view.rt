@@ -1,4 +1,7 @@
 // What a seat of the table knows.
+ghost use Rattle.std.specs.Prelude.{◌≡◌};
+ghost use Rattle.world_rule.specs.Views.{item_in};
+
 use app_core::Outline;
 use event_lists::{EffectName, Event, Item, LaneName, Mark, Parcel, TaskName};
 use std::collections::LinkedList;
@@ -9,6 +12,18 @@ use std::collections::LinkedList;
 pub enum Pending {
     Counted(Item),
     Drawn(EffectName),
+}
+
+impl Pending {
+    /// The message or task; none where it is an effect.
+    pub fn item(self) -> Option<Item>
+        ensures { result ≡ item_in self }
+    {
+        match self {
+            Pending::Counted(item) => Some(item),
+            Pending::Drawn(_) => None,
+        }
+    }
 }
 
 /// What a message, a task or an effect carries.

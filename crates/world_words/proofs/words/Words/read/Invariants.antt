@@ -1,0 +1,6 @@
+use Rattle.std.specs.Prelude.{None}
+use Rattle.event_lists.specs.OwnEvents.{reading_event}
+use Rattle.world_words.proofs.words.Words.read.Given as goal
+
+abbrev pub ghosts-look_as : goal.ghosts-look_as
+ghosts-look_as g a = record { ranks = a.self.now.ranks; workers = a.self.now.workers; program = a.self.now.program; may = g.A.Facts.may_do a.self.now.app; lane = a._name; event = reading_event a._small.0 0 a._small.1 a._large.now; effect = None }
