@@ -1,0 +1,15 @@
+//! The trace that a lane keeps of its events.
+//!
+//! An event of `event_lists` is plain data of 416 bytes. A [`LaneTrace`] stores 32 bytes for each event; the labels of
+//! messages and tasks, and the rows of receipts, are in lists of their own. Room for events is made before they happen,
+//! and adding one takes no memory.
+#![tactic(auto)]
+
+mod room;
+mod stored_event;
+mod trace;
+
+pub use room::Room;
+/// No memory is left for what a call has to make.
+pub use std::alloc::AllocError as OutOfMemory;
+pub use trace::LaneTrace;
