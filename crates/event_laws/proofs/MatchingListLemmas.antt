@@ -1,4 +1,4 @@
--- Lists that match, element by element, are equally long.
+-- Lemmas that crates above use: lists that have each element once, and lists that match, element by element.
 use Rattle.std.proofs.Common.{◌≡◌, ◌⊎◌, zero, suc, ◌+◌, ◌≤◌, List, [], ◌∷◌, ◌++◌, length, refl, sym, ap, ◌∙◌, subst, inl, inr, ⊎_elim, arith, length-append}
 use Rattle.std.specs.Prelude.{Contains}
 use Rattle.app_core.specs.declared.label.Label.{Label}

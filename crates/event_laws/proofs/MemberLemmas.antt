@@ -1,4 +1,4 @@
--- The labels that are in a list.
+-- Lemmas that crates above use: labels that are in a list.
 use Rattle.std.proofs.Common.{◌≡◌, ◌⊎◌, zero, suc, List, [], ◌∷◌, inl, inr, arith}
 use Rattle.std.specs.Prelude.{Contains}
 use Rattle.app_core.specs.declared.label.Label.{Label}
