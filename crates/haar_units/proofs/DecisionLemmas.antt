@@ -6,7 +6,7 @@ use Rattle.haar_units.specs.Jobs.{Operation, DistributedJob}
 use Rattle.haar_units.specs.Actions.{Action, Allowed, outlines_of}
 use Rattle.haar_units.specs.Traversals.{Traversal, plan, plan_if, is_spawned, MayIsPlanned}
 use Rattle.haar_units.specs.Laws.{MayIsAllowed}
-use Rattle.haar_units.specs.Decisions.{IsDecided, IsByAStep, DecidedStepsAreAllowed}
+use Rattle.haar_units.specs.Decisions.{IsDecided, IsByAStep, DecidedStepsAreAllowed, DecidedStepsAreAllowedAnywhere}
 
 module _ {U G : Type 0} (may : Label → List Outline → Type 0) (name : U → Label) (is_unit : U → Type 0) (suits right : U → G → Type 0) (step : U → G → List Outline) (by : IsByAStep may name is_unit right step) where
   module _ (job : DistributedJob) (traversal : Traversal) (sound : ℕ → Bool) (operation : U → Operation) (decide : U → G → Action) (d : IsDecided job traversal sound name is_unit suits right step operation decide) where
@@ -38,3 +38,14 @@ module _ {U G : Type 0} (may : Label → List Outline → Type 0) (name : U → 
 
   pub decided : DecidedStepsAreAllowed may name is_unit suits right step
   decided job traversal sound operation decide d = (allowed job traversal sound operation decide d, within job traversal sound operation decide d, exact job traversal sound operation decide d)
+
+pub decided_anywhere : {U G : Type 0} (name : U → Label) (is_unit : U → Type 0) (suits : U → G → Type 0) (step : U → G → List Outline) → DecidedStepsAreAllowedAnywhere name is_unit suits step
+decided_anywhere name is_unit suits step job operation decide operations keys actions steps u g is s = record {
+  operation = operation u;
+  at = operations u is;
+  action = decide u g;
+  fit = (actions u g is s).0;
+  part = (actions u g is s).1;
+  key = keys u is;
+  lists = steps u g is s;
+}

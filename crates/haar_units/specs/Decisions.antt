@@ -30,3 +30,13 @@ DecidedStepsAreAllowed {U} {G} may name is_unit suits right step =
     → ((u : U) (g : G) → is_unit u → suits u g → Allowed job (name u) (step u g))
     × MayIsAllowed job may
     × ((command : ℕ) → sound command ≡ true → MayIsPlanned job traversal may command)
+
+-- at a number of ranks that the application isn't made for, the first of these holds too
+abbrev pub DecidedStepsAreAllowedAnywhere : {U G : Type 0} → (U → Label) → (U → Type 0) → (U → G → Type 0) → (U → G → List Outline) → Type 0
+DecidedStepsAreAllowedAnywhere {U} {G} name is_unit suits step =
+    (job : DistributedJob) (operation : U → Operation) (decide : U → G → Action)
+    → ((u : U) → is_unit u → operation_at job (name u).command ≡ Some (operation u))
+    → ((u : U) → is_unit u → (name u).part ≤ 2 → 1 ≤ (name u).place)
+    → ((u : U) (g : G) → is_unit u → suits u g → (fits (operation u) (decide u g) ≡ true) × ((name u).part ≡ part_of (decide u g)))
+    → ((u : U) (g : G) → is_unit u → suits u g → step u g ≡ outlines_of job (operation u) (decide u g) (name u).command (name u).place)
+    → (u : U) (g : G) → is_unit u → suits u g → Allowed job (name u) (step u g)
