@@ -1,3 +1,4 @@
 pub mod Assigning
 pub mod CellState
 pub mod PendingState
+pub mod StoredCallbacks

@@ -1,12 +1,13 @@
 //! A value that is assigned at most once, and what waits for it.
-ghost use Rattle.std.specs.Prelude.{◌≡◌, ◌↔◌, [], Err, None, Some, true, IfErr, IfOk, IsSome, IsTrue, OnErr, OnOk};
+ghost use Rattle.std.specs.Prelude.{◌≡◌, ◌∷◌, ◌++◌, ◌↔◌, [], Err, None, Some, false, true, IfErr, IfOk, IsSome, IsTrue, OnErr, OnOk};
 ghost use Rattle.std.specs.Option.{option_copied};
 ghost use Rattle.once_cell.specs.Once.{cell_name};
 ghost use Rattle.future_cell.specs.CellState.{StillKnows};
 ghost use Rattle.future_cell.specs.PendingState.{refused_callback};
 ghost use Rattle.future_cell.specs.Assigning.{IsAlready, refused_value};
 
-use crate::callback::{Callback, Callbacks, FutureId};
+use crate::callback::{Callback, FutureId};
+use crate::callbacks::Callbacks;
 use crate::notes::CellNote;
 use crate::pending::{NotAdded, Pending};
 use once_cell::race::OnceBox;
@@ -117,15 +118,9 @@ impl<T: Drop> FutureCell<T> {
         if self.probe(note) {
             return Err(AssignError::Already(value));
         }
-        let boxed = match Box::new(self.alloc, value) {
-            Ok(boxed) => boxed,
-            Err(refused) => return Err(AssignError::OutOfMemory(refused.value)),
-        };
+        let boxed = boxed(self.alloc, value)?;
         let mut pending = self.pending.lock(rt);
-        match settle(self.alloc, &self.value, &mut pending, note, boxed) {
-            Ok(callbacks) => Ok(callbacks),
-            Err(back) => Err(AssignError::Already(Box::into_inner(back))),
-        }
+        settle(self.alloc, &self.value, &mut pending, note, boxed)
     }
 
     /// Adds a callback, to be handed out when the future gets its value. It may wait for other threads. `Assigned`
@@ -157,17 +152,86 @@ impl<T: Drop> FutureCell<T> {
         }
         unreachable!()
     }
+
+    /// `assign` for a caller that has the future alone, as behind a lock of its own. It takes no lock and doesn't wait.
+    pub fn assign_mut(
+        &mut self,
+        note: &mut CellNote<T>,
+        value: T,
+    ) -> Result<Callbacks, AssignError<T>>
+        requires { note.old.cell ≡ self.old.cell }
+        ensures assigned { OnOk result (note.new.known ≡ Some value) }
+        ensures first { OnOk result (note.old.known ≡ None) }
+        ensures already { IfErr result (λ e. IsAlready e ↔ IsSome note.new.known) }
+        ensures back { IfErr result (λ e. refused_value e ≡ value) }
+        ensures keeps { StillKnows note.old.known note.new.known }
+        ensures cell { note.new.cell ≡ note.old.cell }
+        ensures same { self.new ≡ self.old }
+    {
+        if self.probe(note) {
+            return Err(AssignError::Already(value));
+        }
+        let boxed = boxed(self.alloc, value)?;
+        let pending = self.pending.get_mut();
+        settle(self.alloc, &self.value, pending, note, boxed)
+    }
+
+    /// `on_assigned` for a caller that has the future alone, as behind a lock of its own. It takes no lock and doesn't
+    /// wait.
+    pub fn on_assigned_mut(
+        &mut self,
+        note: &mut CellNote<T>,
+        callback: Callback,
+    ) -> Result<(), NotAdded>
+        requires { note.old.cell ≡ self.old.cell }
+        ensures added { OnOk result (note.new.known ≡ None) }
+        ensures assigned { (result ≡ Err (NotAdded.Assigned callback)) ↔ IsSome note.new.known }
+        ensures back { IfErr result (λ e. refused_callback e ≡ callback) }
+        ensures keeps { StillKnows note.old.known note.new.known }
+        ensures cell { note.new.cell ≡ note.old.cell }
+        ensures same { self.new ≡ self.old }
+    {
+        if self.probe(note) {
+            return Err(NotAdded::Assigned(callback));
+        }
+        add_open(self.alloc, self.pending.get_mut(), callback)
+    }
 }
 
-// Sets the value where it is the first, and then takes out what waits for it. The caller has the lock of `pending`,
-// so that no callback is added between the two.
+// Adds a callback of a future without a value. Its state is open; a closed one, which can't come about, is opened anew,
+// since no proof can say so.
+fn add_open(alloc: Global, pending: &mut Pending, callback: Callback) -> Result<(), NotAdded>
+    ensures added { OnOk result (pending.new.callbacks ≡ pending.old.callbacks ++ callback ∷ []) }
+    ensures open { pending.new.closed ≡ false }
+    ensures memory { IfErr result (λ e. e ≡ NotAdded.OutOfMemory callback) }
+    ensures kept { OnErr result (pending.new.callbacks ≡ pending.old.callbacks) }
+{
+    if pending.is_closed() {
+        *pending = Pending::new(alloc);
+    }
+    pending.add(callback)
+}
+
+// The value in memory of its own. `OutOfMemory` where there is none.
+fn boxed<T>(alloc: Global, value: T) -> Result<Box<T>, AssignError<T>>
+    ensures value { IfOk result (λ b. b.value ≡ value) }
+    ensures memory { IfErr result (λ e. e ≡ AssignError.OutOfMemory value) }
+{
+    match Box::new(alloc, value) {
+        Ok(boxed) => Ok(boxed),
+        Err(refused) => Err(AssignError::OutOfMemory(refused.value)),
+    }
+}
+
+// Sets the value where it is the first, and then takes out what waits for it. `Already` where it isn't the first. The
+// caller has the state alone, so that no callback is added between the two.
 fn settle<T: Drop>(
     alloc: Global,
     cell: &OnceBox<T>,
     pending: &mut Pending,
     note: &mut CellNote<T>,
     value: Box<T>,
-) -> Result<Callbacks, Box<T>>
+) -> Result<Callbacks, AssignError<T>>
     requires { note.old.cell ≡ cell_name cell.now }
     ensures all { IfOk result (λ c. c ≡ pending.old.callbacks) }
     ensures closed { OnOk result (pending.new ≡ record { callbacks = []; closed = true }) }
@@ -175,11 +239,13 @@ fn settle<T: Drop>(
     ensures assigned { OnOk result (note.new.known ≡ Some value.value) }
     ensures first { OnOk result (note.old.known ≡ None) }
     ensures already { OnErr result (IsSome note.new.known) }
-    ensures back { IfErr result (λ b. b.value ≡ value.value) }
+    ensures back { IfErr result (λ e. e ≡ AssignError.Already value.value) }
     ensures keeps { StillKnows note.old.known note.new.known }
     ensures cell { note.new.cell ≡ note.old.cell }
 {
-    cell.set_as(value, note)?;
+    if let Err(back) = cell.set_as(value, note) {
+        return Err(AssignError::Already(Box::into_inner(back)));
+    }
     match pending.close() {
         Some(callbacks) => Ok(callbacks),
         None => Ok(Callbacks::new(alloc)),

@@ -7,13 +7,17 @@
 #![tactic(auto)]
 
 mod callback;
+mod callbacks;
 mod cell;
 mod notes;
 mod pending;
 #[cfg(test)]
 mod tests;
 
-pub use callback::{Callback, Callbacks, FutureId};
+pub use callback::{Callback, FutureId};
+pub use callbacks::Callbacks;
 pub use cell::{AssignError, FutureCell};
 pub use notes::{CellNote, notes_agree};
 pub use pending::{NotAdded, Pending};
+/// No memory is left for what a call has to make.
+pub use std::alloc::AllocError as OutOfMemory;

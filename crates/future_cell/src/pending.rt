@@ -1,8 +1,9 @@
 //! What waits for a future, until it has its value.
-ghost use Rattle.std.specs.Prelude.{◌≡◌, ◌∷◌, ◌++◌, ◌↔◌, [], true, false, Err, IfErr, IfNone, IfSome, IsNone, IsTrue, OnErr, OnOk};
+ghost use Rattle.std.specs.Prelude.{◌≡◌, ◌≢◌, ◌∷◌, ◌++◌, ◌↔◌, [], true, false, Err, IfErr, IfNone, IfSome, IsNone, IsTrue, OnErr, OnOk};
 ghost use Rattle.future_cell.specs.PendingState.{refused_callback};
 
-use crate::callback::{Callback, Callbacks};
+use crate::callback::Callback;
+use crate::callbacks::Callbacks;
 use std::alloc::Global;
 use std::marker::Model;
 use std::mem;
@@ -22,7 +23,7 @@ pub enum NotAdded {
 /// The callbacks that wait for a future. It is open until they are handed out, and then closed and empty.
 #[derive(Drop)]
 pub struct Pending {
-    callbacks: Vec<Callback>,
+    callbacks: Callbacks,
     closed: bool,
     alloc: Global,
 }
@@ -33,9 +34,9 @@ impl Model for Pending {
 
     ghost Value = { PendingState };
 
-    ghost view = { λ p. record { callbacks = p.callbacks.items; closed = p.closed } };
+    ghost view = { λ p. record { callbacks = p.callbacks; closed = p.closed } };
 
-    ghost invariant = { λ p. p.closed ≡ true → p.callbacks.items ≡ [] };
+    ghost invariant = { λ p. p.closed ≡ true → p.callbacks ≡ [] };
 }
 
 impl Pending {
@@ -44,18 +45,19 @@ impl Pending {
         ensures { result ≡ record { callbacks = []; closed = false } }
     {
         Pending {
-            callbacks: Vec::new(alloc),
+            callbacks: Callbacks::new(alloc),
             closed: false,
             alloc,
         }
     }
 
-    /// Adds the callback last. `Assigned` exactly where the state is closed; `OutOfMemory` where there is no memory
-    /// for it. Each hands the callback back, and the state stays.
+    /// Adds the callback last. The first one takes no memory. `Assigned` exactly where the state is closed;
+    /// `OutOfMemory` where there is no memory for a later one. Each hands the callback back, and the state stays.
     pub fn add(&mut self, callback: Callback) -> Result<(), NotAdded>
         ensures added { OnOk result (self.new.callbacks ≡ self.old.callbacks ++ callback ∷ []) }
         ensures open { OnOk result (self.new.closed ≡ false) }
         ensures assigned { (result ≡ Err (NotAdded.Assigned callback)) ↔ IsTrue self.old.closed }
+        ensures later { result ≡ Err (NotAdded.OutOfMemory callback) → self.old.callbacks ≢ [] }
         ensures back { IfErr result (λ e. refused_callback e ≡ callback) }
         ensures same { OnErr result (self.new ≡ self.old) }
     {
@@ -66,6 +68,13 @@ impl Pending {
             return Err(NotAdded::OutOfMemory(callback));
         }
         Ok(())
+    }
+
+    /// Whether the callbacks were handed out.
+    pub fn is_closed(&self) -> bool
+        ensures { result ≡ self.now.closed }
+    {
+        self.closed
     }
 
     /// Hands out all callbacks, in order, and leaves the state empty and closed. None exactly where it was closed. It
@@ -80,7 +89,6 @@ impl Pending {
             return None;
         }
         self.closed = true;
-        let items = mem::replace(&mut self.callbacks, Vec::new(self.alloc));
-        Some(Callbacks::from_vec(items))
+        Some(mem::replace(&mut self.callbacks, Callbacks::new(self.alloc)))
     }
 }

@@ -63,15 +63,49 @@ fn callbacks_come_out_in_order(rt: HostRuntime) -> Result<(), Fail> {
     for callback in callbacks {
         assert_eq!(rt; pending.add(callback), Ok(()));
     }
-    let out = pending.close().ok_or("it was open")?.into_vec();
-    let again = Callbacks::from_vec(out);
-    assert_eq!(rt; again.as_slice(), callbacks.as_slice());
+    assert!(rt; !pending.is_closed());
+    let out = pending.close().ok_or("it was open")?;
+    assert_eq!(rt; out.as_slice(), callbacks.as_slice());
+    assert_eq!(rt; out.len(), 3);
+    assert!(rt; pending.is_closed());
     assert!(rt; pending.close().is_none());
     assert_eq!(rt;
         pending.add(callbacks[0]),
         Err(NotAdded::Assigned(callbacks[0]))
     );
     Ok(())
+}
+
+#[test]
+fn lists_of_none_one_and_more_callbacks(rt: HostRuntime) -> Result<(), Fail> {
+    let mut callbacks = Callbacks::new(rt.alloc());
+    assert!(rt; callbacks.is_empty());
+    for count in 1..6usize {
+        callbacks.push(Callback::Task { id: 7, index: 0 })?;
+        assert_eq!(rt; callbacks.len(), count);
+        assert!(rt; !callbacks.is_empty());
+    }
+    Ok(())
+}
+
+#[test]
+fn future_of_one_owner(rt: HostRuntime) {
+    let mut cell = FutureCell::new(rt.alloc(), ID);
+    let mut note = cell.note();
+    let early = Callback::Task { id: 3, index: 0 };
+    let late = Callback::Task { id: 4, index: 1 };
+    assert_eq!(rt; cell.on_assigned_mut(&mut note, early), Ok(()));
+    let assigned = cell.assign_mut(&mut note, 7u64);
+    assert!(rt; assigned.is_ok_and(|callbacks| callbacks.as_slice() == [early].as_slice()));
+    assert_eq!(rt;
+        cell.on_assigned_mut(&mut note, late),
+        Err(NotAdded::Assigned(late))
+    );
+    let second = cell.assign_mut(&mut note, 8);
+    assert_eq!(rt; second.err(), Some(AssignError::Already(8)));
+    assert_eq!(rt; cell.get(&mut note).copied(), Some(7));
+    let mut other = cell.note();
+    assert!(rt; cell.probe(&mut other));
 }
 
 #[test]
