@@ -1,1 +1,2 @@
 pub mod StoredEventLemmas
+pub mod RoomLemmas

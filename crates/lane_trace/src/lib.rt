@@ -5,11 +5,15 @@
 //! and adding one takes no memory.
 #![tactic(auto)]
 
+mod examples;
 mod room;
 mod stored_event;
+#[cfg(test)]
+mod tests;
 mod trace;
 
-pub use room::Room;
+pub use examples::{labels_are_counted, room_is_judged, rows_are_counted};
+pub use room::{Room, any_event_fits};
 /// No memory is left for what a call has to make.
 pub use std::alloc::AllocError as OutOfMemory;
 pub use trace::LaneTrace;

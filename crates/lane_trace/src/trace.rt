@@ -1,5 +1,5 @@
 //! The events of a lane, as they are stored, and the room for more.
-ghost use Rattle.std.specs.Prelude.{◌≡◌, ◌≤◌, ◌<◌, [], ◌∷◌, length, reverse, slice_get, Some, IfOk, IsOk, OnOk, OnErr};
+ghost use Rattle.std.specs.Prelude.{◌≡◌, ◌≤◌, ◌<◌, [], ◌∷◌, length, reverse, slice_get, Some, IfOk, IsOk, IsTrue, ◌↔◌, OnOk, OnErr};
 ghost use Rattle.app_core.specs.Needs.{AreDistinct, max_needs};
 ghost use Rattle.event_lists.specs.declared.event.Event.TheVariants as event;
 ghost use Rattle.event_lists.specs.declared.event.Parcel.TheVariants as parcel;
@@ -11,7 +11,7 @@ use crate::OutOfMemory;
 use crate::room::Room;
 use crate::stored_event::{StoredEvent, add_due, add_needs, add_rows, event_of};
 use app_core::{CellName, Label};
-use event_lists::{Event, Kind, Parcel, Receipt, Row};
+use event_lists::{Event, Kind, Parcel, Receipt, Row, TaskName};
 use std::alloc::Global;
 use std::marker::Model;
 
@@ -81,6 +81,13 @@ impl LaneTrace {
         ensures { result ≡ length self.now.events }
     {
         self.entries.len()
+    }
+
+    /// Whether there are none.
+    pub fn is_empty(&self) -> bool
+        ensures { IsTrue result ↔ (self.now.events ≡ []) }
+    {
+        self.entries.is_empty()
     }
 
     /// The room that is left.
@@ -288,6 +295,56 @@ impl LaneTrace {
             rows,
             count: count as u8,
         });
+    }
+
+    /// An event of any kind.
+    pub fn push(&mut self, event: &Event)
+        requires { HasRoomFor event.now self.old.room }
+        ensures events { self.new.events ≡ event.now ∷ self.old.events }
+        ensures room { self.new.room ≡ room_after event.now self.old.room }
+    {
+        match event {
+            Event::Sent { number, to, parcel } => self.sent(*number, *to, parcel),
+            Event::TookMessage { rank, number } => self.took_message(*rank, *number),
+            Event::TookTask { rank, number } => self.took_task(*rank, *number),
+            Event::Handled {
+                number,
+                rank,
+                message,
+            } => self.handled(*number, *rank, *message),
+            Event::Submitted { number, task } => self.submitted_task(*number, task),
+            Event::Ran { number, rank, task } => self.ran(*number, *rank, *task),
+            Event::Gave(future) => self.gave(*future),
+            Event::Put(name) => self.put(*name),
+            Event::Erased(name) => self.erased(*name),
+            Event::ReadHandled { value, fence, pass } => self.read(
+                Kind::Handlings,
+                *value,
+                *fence,
+                *pass,
+            ),
+            Event::ReadRan { value, fence, pass } => self.read(Kind::Runs, *value, *fence, *pass),
+            Event::ReadSubmitted { value, fence, pass } => self.read(
+                Kind::Submissions,
+                *value,
+                *fence,
+                *pass,
+            ),
+            Event::ReadSent { value, fence, pass } => self.read(Kind::Sends, *value, *fence, *pass),
+            Event::Enter(fence) => self.enter(*fence),
+            Event::Leave(fence) => self.leave(*fence),
+            Event::Receipt(receipt) => self.receipt(receipt),
+        }
+    }
+
+    // Submission `number` of this rank: this task.
+    fn submitted_task(&mut self, number: u64, task: &TaskName)
+        requires { HasRoomFor (event.Submitted number task.now) self.old.room }
+        ensures events { self.new.events ≡ event.Submitted number task.now ∷ self.old.events }
+        ensures room { self.new.room ≡ room_after (event.Submitted number task.now) self.old.room }
+    {
+        let _ = task.needs.len();
+        self.submitted(number, task.unit, task.needs.labels(), task.due);
     }
 
     /// The event at an index, from 0 for the oldest.
