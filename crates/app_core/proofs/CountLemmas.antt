@@ -45,7 +45,7 @@ one_is_there {X} test (y ∷ ys) one = head (λ left. one_is_there test ys left)
     head later true passes = (zero, y, refl, passes)
     head later false fails = further (later (sym (count_no test y ys fails) ∙ one))
 
--- and any two that pass stand at one place
+-- and any two that pass are at one position
 pub one_place : {X : Type 0} (test : X → Bool) (xs : List X) (i j : ℕ) (a b : X) → count_by test xs ≡ 1 → slice_get xs i ≡ Some a → test a ≡ true → slice_get xs j ≡ Some b → test b ≡ true → i ≡ j
 one_place test [] i j a b one at_i passes_a at_j passes_b = absurd (omega (arith, one))
 one_place test (y ∷ ys) zero zero a b one at_i passes_a at_j passes_b = refl

@@ -1,4 +1,4 @@
--- Stored effects stay what they are where labels are added behind those there.
+-- Stored effects stay what they are where labels are added after those there.
 use Rattle.std.proofs.Common.{◌≡◌, ◌+◌, ◌≤◌, List, [], ◌∷◌, ◌++◌, map, take, drop, length, refl, arith, ap, ◌∙◌, length-append, length-drop}
 use Rattle.std.proofs.lemmas.List.{take-append-le, drop-append-le}
 use Rattle.std.proofs.lemmas.Grind.{common_steps}
@@ -15,7 +15,7 @@ labels_grown labels more span within =
     let there : span.count ≤ length (drop span.from labels) = omega (arith, length-drop span.from labels, within) in
     ap (take span.count) (drop-append-le span.from labels more before) ∙ take-append-le span.count (drop span.from labels) more there
 
--- a span behind the labels has those that are added
+-- a span after the labels has those that are added
 pub labels_last : (labels more : List Label) (span : Span) → span.from ≡ length labels → span.count ≡ length more → labels_in (labels ++ more) span ≡ more
 labels_last labels more span from count = rw (from, count) (last labels more)
   where

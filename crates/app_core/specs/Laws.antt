@@ -14,7 +14,7 @@ LabelsAreTold = (a b : Label) → (same_label a b ≡ true) ↔ (a ≡ b)
 abbrev pub CountedIsThere : Type 0
 CountedIsThere = (test : Outline → Bool) (os : List Outline) → count_by test os ≡ 1 → (i : ℕ) × (o : Outline) × (slice_get os i ≡ Some o) × (test o ≡ true)
 
--- and any two that pass stand at one place
+-- and any two that pass are at one position
 abbrev pub CountedIsOne : Type 0
 CountedIsOne = (test : Outline → Bool) (os : List Outline) (i j : ℕ) (a b : Outline) → count_by test os ≡ 1
     → slice_get os i ≡ Some a → test a ≡ true → slice_get os j ≡ Some b → test b ≡ true → i ≡ j

@@ -6,7 +6,7 @@ use Rattle.app_core.specs.declared.label.Label.{Label}
 abbrev pub max_needs : ℕ
 max_needs = 16
 
--- what fills the places behind the labels
+-- what fills the positions after the labels
 abbrev pub nothing : Label
 nothing = record { command = 0; part = 0; place = 0 }
 

@@ -19,7 +19,7 @@ count_back labels count are = length-take-le count labels (omega (arith, are.siz
 pub back : (a : Inside) → AreNeeds a.labels a.count → record { labels = take a.count a.labels ++ replicate (16 - length (take a.count a.labels)) nothing; count = length (take a.count a.labels) } ≡ a
 back a are = rw (labels_back a.labels a.count are, count_back a.labels a.count are) refl
 
--- labels copied to the front of an empty array
+-- labels copied to the start of an empty array
 pub made : (labels front : List Label) → front ≡ labels → length labels ≤ 16 → AreDistinct labels → AreNeeds (front ++ drop (length labels) (replicate 16 nothing)) (length labels)
 made labels front is within apart =
     let filled = drop-replicate (length labels) 16 nothing in

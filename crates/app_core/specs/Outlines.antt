@@ -1,4 +1,4 @@
--- Effects without their units, values and cells, and what they bring up, give and touch.
+-- Effects without their units, values and cells, and what they create, give and touch.
 use Rattle.std.specs.Prelude.{◌≡◌, ◌≢◌, ℕ, List, [], ◌∷◌, ◌++◌, Bool, false, ◌==◌, ◌&&◌, ◌||◌, Option, Some, None, ⊤, map, count_by, Contains}
 use Rattle.std.specs.List.{flat_map, list_any}
 use Rattle.std.specs.Option.{option_to_list}

@@ -1,4 +1,4 @@
--- What an effect stands for that is stored beside a list of labels, or that lends the labels of its needs.
+-- Which effect one is that is stored beside a list of labels, or that lends the labels of its needs.
 use Rattle.std.specs.Prelude.{◌+◌, ◌≤◌, List, [], ◌∷◌, take, drop, length, ⊤, Option, Some, None}
 use Rattle.std.specs.Borrow.{Bor}
 use Rattle.app_core.specs.declared.label.Label.{Label}
@@ -26,7 +26,7 @@ module _ {U V C : Type 0} where
   abbrev pub stored_effect : List Label → EffectWith U V C Span → Effect U V C
   stored_effect labels = effect_of (labels_in labels)
 
-  -- its labels stand in the list, and are needs
+  -- its labels are in the list, and are needs
   abbrev pub IsStored : List Label → EffectWith U V C Span → Type 0
   IsStored labels (Spawn u) = ⊤
   IsStored labels (SpawnNeeding u span) = (span.from + span.count ≤ length labels) × (span.count ≤ max_needs) × AreDistinct (labels_in labels span)

@@ -22,13 +22,13 @@ use std::alloc::Global;
 
 /// An application: commands that are cut into units, which run on ranks and give values to futures.
 ///
-/// Each call answers what a definition says that the implementation names: the ghost members above the calls. Those
+/// Each call returns what a definition says that the implementation names: the ghost members above the calls. Those
 /// below the calls are its laws, which each implementation proves and generic code may use. A call that takes a
 /// command has the condition that it is one from 1 to `commands`, and one that takes a number of ranks that it is
 /// from 1 to 16.
 ///
-/// A future is brought up by the starts of a command, or by a step, that name it in the due or the needs of a unit
-/// that they spawn; the due of the step's own unit is not brought up by that step. `Names` is the relation.
+/// A future is created by the starts of a command, or by a step, that name it in the due or the needs of a unit
+/// that they spawn; the due of the step's own unit is not created by that step. `Names` is the relation.
 pub trait App: Facts + Sync {
     /// What runs: a piece of a command.
     type Unit: Drop + Send + Sync;
@@ -88,7 +88,7 @@ pub trait App: Facts + Sync {
         requires { IsCommand (Self.kinds_of self.now) command }
         ensures { kind_of (Self.kinds_of self.now) command ≡ Some result };
 
-    /// The spawns of a work command, which the main of rank 0 makes. `OutOfMemory` comes for want of memory alone.
+    /// The spawns of a work command, which the main of rank 0 makes. `OutOfMemory` comes only when memory is refused.
     fn starts(
         &self,
         alloc: Global,
@@ -132,7 +132,7 @@ pub trait App: Facts + Sync {
         ensures { result ≡ counts_of self.now unit.now };
 
     /// The effects of a unit on its inputs, which have a value for each need and a cell for each read entry, and
-    /// needn't be right. `OutOfMemory` comes for want of memory alone, and gives the unit and the inputs up.
+    /// needn't be right. `OutOfMemory` comes only when memory is refused, and drops the unit and the inputs.
     fn step(
         &self,
         alloc: Global,
@@ -148,7 +148,7 @@ pub trait App: Facts + Sync {
     fn dropped(&self, fence: u32, index: u32) -> Option<u32>
         ensures { result ≡ slice_get (Self.dropped_of self.now fence) index };
 
-    /// An equal value. `OutOfMemory` comes for want of memory alone.
+    /// An equal value. `OutOfMemory` comes only when memory is refused.
     fn copy_value(&self, alloc: Global, value: &Self::Value) -> Result<Self::Value, OutOfMemory>
         ensures { IfOk result (λ v. v ≡ value.now) };
 
@@ -185,14 +185,14 @@ pub trait App: Facts + Sync {
         → AllByRecursion (NeedingRunsAt 0) (outlines (label_of app) (due_of app) (home_of app) (kept_at app)
         ranks (starting_of app command ranks)) };
 
-    /// A future that the starts bring up has the number of the command.
+    /// A future that the starts create has the number of the command.
     ghost starts_name_their_command: { (app : Self) (command ranks : ℕ) (future : LabelData)
         → IsCommand (Self.kinds_of app) command → IsRankCount ranks
         → Names (outlines (label_of app) (due_of app) (home_of app) (kept_at app)
         ranks (starting_of app command ranks)) future
         → future.command ≡ command };
 
-    /// A future that the starts bring up is the due of exactly one of them.
+    /// A future that the starts create is the due of exactly one of them.
     ghost starts_have_a_due_once: { (app : Self) (command ranks : ℕ) (future : LabelData)
         → IsCommand (Self.kinds_of app) command → IsRankCount ranks
         → Names (outlines (label_of app) (due_of app) (home_of app) (kept_at app)
@@ -200,7 +200,7 @@ pub trait App: Facts + Sync {
         → IsDueOnce future (outlines (label_of app) (due_of app) (home_of app) (kept_at app)
         ranks (starting_of app command ranks)) };
 
-    /// A future that the starts bring up, other than the command's result, is needed by exactly one of them.
+    /// A future that the starts create, other than the command's result, is needed by exactly one of them.
     ghost starts_need_others_once: { (app : Self) (command ranks : ℕ) (future : LabelData)
         → IsCommand (Self.kinds_of app) command → IsRankCount ranks
         → Names (outlines (label_of app) (due_of app) (home_of app) (kept_at app)
@@ -284,7 +284,7 @@ pub trait App: Facts + Sync {
         → AllByRecursion (GivesOnly (due_of app unit)) (outlines (label_of app) (due_of app) (home_of app) (kept_at app)
         (Self.ranks_of app) (step_of app unit given)) };
 
-    /// A future that a step brings up is the due of exactly one unit that it spawns.
+    /// A future that a step creates is the due of exactly one unit that it spawns.
     ghost spawns_have_a_due_once: { (app : Self) (unit : Self.Unit) (given : Given Self.Value Self.Cell) (future : LabelData)
         → is_unit app unit → Fits (needs_of app unit) (reads_of app unit) given
         → Names (outlines (label_of app) (due_of app) (home_of app) (kept_at app)
@@ -293,7 +293,7 @@ pub trait App: Facts + Sync {
         → IsDueOnce future (outlines (label_of app) (due_of app) (home_of app) (kept_at app)
         (Self.ranks_of app) (step_of app unit given)) };
 
-    /// A future that a step brings up is needed by exactly one unit that it spawns.
+    /// A future that a step creates is needed by exactly one unit that it spawns.
     ghost spawns_need_others_once: { (app : Self) (unit : Self.Unit) (given : Given Self.Value Self.Cell) (future : LabelData)
         → is_unit app unit → Fits (needs_of app unit) (reads_of app unit) given
         → Names (outlines (label_of app) (due_of app) (home_of app) (kept_at app)

@@ -73,7 +73,7 @@ impl<'a, U, V, C> EffectQueue<'a, U, V, C> {
     }
 }
 
-// The effect with the labels that stand at its span.
+// The effect with the labels at its span.
 #[inline(always)]
 fn lend<'a, U, V, C>(
     item: EffectWith<U, V, C, Span>,

@@ -25,7 +25,7 @@ pub enum EffectWith<U, V, C, L> {
 /// An effect that was taken out, and lends the labels of its needs.
 pub type LentEffect<'a, U, V, C> = EffectWith<U, V, C, &'a [Label]>;
 
-/// Where the labels of a unit's needs stand in a list of labels.
+/// Where the labels of a unit's needs are in a list of labels.
 #[derive(Clone, Copy, Debug, PartialEq, Eq)]
 pub(crate) struct Span {
     pub(crate) from: usize,

@@ -16,7 +16,7 @@ use std::mem;
 
 /// The effects of a step, in order. Contracts see their list.
 ///
-/// An effect is stored without its needs; the labels of all needs stand in one list beside the effects.
+/// An effect is stored without its needs; the labels of all needs are in one list beside the effects.
 #[derive(Drop)]
 pub struct Effects<U, V, C> {
     items: Vec<EffectWith<U, V, C, Span>>,
@@ -87,7 +87,7 @@ impl<U, V, C> Effects<U, V, C> {
 }
 
 impl<U: Drop, V: Drop, C: Drop> Effects<U, V, C> {
-    /// Adds an effect last. A refusal, for want of memory, gives the effect up, and those before stay.
+    /// Adds an effect last. When memory is refused the effect is dropped, and those before stay.
     #[inline(always)]
     pub fn push(&mut self, effect: Effect<U, V, C>) -> Result<(), OutOfMemory>
         ensures ok { OnOk result (self.new ≡ self.old ++ effect ∷ []) }
@@ -105,7 +105,7 @@ impl<U: Drop, V: Drop, C: Drop> Effects<U, V, C> {
         }
     }
 
-    /// Adds a spawn of a unit with these needs last. A refusal, for want of memory, gives the unit up, and the
+    /// Adds a spawn of a unit with these needs last. When memory is refused the unit is dropped, and the
     /// effects before stay.
     #[inline(always)]
     pub fn push_needing(&mut self, unit: U, labels: &[Label]) -> Result<(), OutOfMemory>

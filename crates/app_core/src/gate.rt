@@ -1,10 +1,10 @@
-//! What stands round the step of each task.
+//! What runs before and after the step of each task.
 use std::sync::Wait;
 
-/// What the runtime calls round each task. It serves tests that hold tasks back; a program has [`NoGate`].
+/// What the runtime calls before and after each task. It serves tests that hold tasks back; a program has [`NoGate`].
 ///
 /// The runtime calls `enter` just before and `leave` just after the step of each task, and at no other place. Both
-/// are handed the rank on which the task runs, and the number of its command. Both may wait.
+/// get the rank on which the task runs, and the number of its command. Both may wait.
 pub trait Gate: Sync {
     /// A task of this command is about to run on this rank.
     fn enter<R: Wait>(&self, rt: &R, rank: u32, command: u32);

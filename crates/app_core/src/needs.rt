@@ -5,7 +5,7 @@ ghost use Rattle.app_core.specs.Needs.{AreDistinct, max_needs};
 use crate::label::Label;
 use std::marker::Model;
 
-// What fills the places behind the labels.
+// What fills the positions after the labels.
 const NOTHING: Label = Label {
     command: 0,
     part: 0,

@@ -41,7 +41,7 @@ impl<T> Model for Waiting<T> {
 }
 
 impl<T: Drop> Waiting<T> {
-    /// `needs` empty slots, at most 32. `OutOfMemory` where no memory is left for them and for their values; no
+    /// `needs` empty slots, at most 32. `OutOfMemory` when memory is refused for them and for their values; no
     /// later call takes any.
     pub fn new(alloc: Global, needs: u32) -> Result<Waiting<T>, OutOfMemory>
         requires { needs ≤ 32 }

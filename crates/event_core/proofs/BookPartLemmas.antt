@@ -1,4 +1,4 @@
--- What stands once in a lawful book.
+-- What is in a lawful book once.
 use Rattle.std.proofs.Common.{◌≡◌, ℕ, zero, suc, Bool, true, false, List, [], ◌∷◌, refl, sym, ap, subst, ◌∙◌, inl, inr, arith}
 use Rattle.std.specs.Prelude.{if◌then◌else◌, Some, slice_get}
 use Rattle.event_lists.specs.declared.lane.LaneName.{LaneName}
@@ -13,7 +13,7 @@ use Rattle.event_lists.proofs.CountLemmas.{numbered, on_below}
 use Rattle.event_lists.proofs.ItemLemmas.{taken_here, taken_more, took_fresh}
 use Rattle.event_core.specs.Books.{TakingsAreApart, NumbersAreApart}
 
--- an event of a lane's part stands in the list
+-- an event of a lane's part is in the list
 part_stands : (l : LaneName) (log : List Mark) (i : ℕ) (e : Event) → slice_get (part l log) i ≡ Some e → StandsOn l e log
 part_stands l [] i e at = absurd (cc)
 part_stands l (x ∷ log) i e at = go (λ k. part_stands l log k e) (same_lane x.lane l) refl i at

@@ -59,7 +59,7 @@ IsLawful b = (log : List Mark) × Legal b.ranks b.workers log × HasParts log b
 abbrev pub BookFollows : List Doing → (Label → List Outline → Type 0) → BookData → Type 0
 BookFollows program may b = (log : List Mark) × (task_effects : TaskEffects) × IsRun b.ranks b.workers program may task_effects log × HasParts log b
 
--- the event stands in a book on this lane, with so many later ones there
+-- the event is in a book on this lane, with so many later ones there
 abbrev pub StandsIn : BookData → LaneName → ℕ → Event → Type 0
 StandsIn b l later e = slice_get (reverse (events_of l b.parts)) later ≡ Some e
 

@@ -51,7 +51,7 @@ impl LanePart {
 
 /// The parts of the lanes of a run, over 1 to 16 ranks with 0 to 4 workers each.
 ///
-/// Each lane that wrote an event stands there once, and no other: hands first, by rank and number, then bins, by rank and
+/// Each lane that wrote an event is there once, and no other: hands first, by rank and number, then bins, by rank and
 /// number. Each receipt has a row for each rank.
 #[derive(Drop)]
 pub struct Book {

@@ -1,9 +1,9 @@
 //! The core of events: the list of the events of a run, which stays legal, and books of runs.
 //!
 //! [`EventList`] takes one more event exactly where the longer list is legal, at the cost of the logarithm of the
-//! list. What makes a list legal, and the laws of every legal list, up to "each receipt is quiet", stand in
+//! list. What makes a list legal, and the laws of every legal list, up to "each receipt is quiet", are in
 //! `event_lists`; what makes a list follow an application, with the trait [`ListLaws`], in `event_laws`; the decision of
-//! one event in `event_rules`. This crate hands their types and laws on.
+//! one event in `event_rules`. This crate re-exports their types and laws.
 #![tactic(auto)]
 
 mod book;

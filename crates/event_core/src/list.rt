@@ -39,7 +39,7 @@ impl Model for EventList {
 }
 
 impl EventList {
-    /// No events, over 1 to 16 ranks with 0 to 4 workers each. `OutOfMemory` comes for want of memory alone.
+    /// No events, over 1 to 16 ranks with 0 to 4 workers each. `OutOfMemory` comes only when memory is refused.
     pub fn new(alloc: Global, ranks: u32, workers: u32) -> Result<EventList, OutOfMemory>
         requires range { AreInRange ranks workers }
         ensures { IfOk result (λ s. s ≡ record { ranks = ranks; workers = workers; log = [] }) }
@@ -68,8 +68,8 @@ impl EventList {
         self.workers
     }
 
-    /// Adds an event to the end, and answers true, exactly where the longer list is legal. Else, and for want of
-    /// memory, the list stays as it is.
+    /// Adds an event to the end, and returns true, exactly when the longer list is legal. Otherwise, and when memory
+    /// is refused, the list stays as it is.
     pub fn add(&mut self, lane: LaneName, event: &Event) -> Result<bool, OutOfMemory>
         ensures allowed { IfOk result (λ added. IsTrue added ↔ Allows self.old lane event.now) }
         ensures added { IfOk result (λ added. IsTrue added → self.new ≡ record self.old { log = on lane event.now ∷ self.old.log }) }

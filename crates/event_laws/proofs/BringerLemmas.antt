@@ -1,4 +1,4 @@
--- Lemmas that crates above use: where a label tells its bringer, no label is brought up by two; and where two units that
+-- Lemmas that crates above use: where a label tells its bringer, no label is created by two; and where two units that
 -- may put or erase one entry never both do, no two begun tasks do.
 use Rattle.std.proofs.Common.{◌≡◌, ℕ, Bool, true, false, List, [], ◌∷◌, ◌++◌, refl, sym, ap, ◌∙◌, subst, ⊎_elim}
 use Rattle.std.specs.Prelude.{if◌then◌else◌, ◌==◌, Option, Some, None, slice_get, Contains}
@@ -124,7 +124,7 @@ module _ (ranks workers : ℕ) (program : List Doing) (may : Label → List Outl
             let due : label_of (own_due (in_hand (part w.x.lane w.before)) w.before) ≡ dues (p.0).unit = ap (λ (h : Option Item). label_of (own_due h w.before)) hand ∙ named_by ∙ due_is r n p.0 here in
             by_task r n p.0 (sym task) (up.steps (p.0).unit c.os i c.o l p.2 c.here (named_is w.x.lane.rank c.o w.x.event l c.says w.names) (λ d. both_ways (is_own l (own_due (in_hand (part w.x.lane w.before)) w.before)) w.other (own_is (own_due (in_hand (part w.x.lane w.before)) w.before) l (due ∙ d)))) here
 
-    -- no label is brought up by two bringers
+    -- no label is created by two bringers
     pub one_bringer : (parent : Label → Option Label) → LabelsAreTree program may parent → HasOneBringer end
     one_bringer parent tree b c l v w = meet (raised b l v) (raised c l w)
       where

@@ -24,7 +24,7 @@ effect_some r n i (Some f) e =
     let q = and_parts (n == f.number) (i == f.index) p.1 in
     ap Some (λ k. record { rank = sym (eqb-true r f.rank p.0) k; number = sym (eqb-true n f.number q.0) k; index = sym (eqb-true i f.index q.1) k })
 
--- what was carried out stands at a position
+-- what was carried out is at a position
 pub carried_stands : (r n i : ℕ) (log : List Mark) → carried_out r n i log ≡ true → (x : Mark) × (before : List Mark) × Begins (x ∷ before) log × (x.effect ≡ Some (effect_name r n i))
 carried_stands r n i [] t = absurd (cc)
 carried_stands r n i (x ∷ log) t = ⊎_elim
@@ -59,7 +59,7 @@ module _ (program : List Doing) (task_effects : TaskEffects) (x : Mark) (before 
   carries mine e g = absurd (no_effect g)
 
 module _ (program : List Doing) (task_effects : TaskEffects) (log : List Mark) (follows : FollowsBy program task_effects log) where
-  -- an effect on an entry that was carried out stands on the entry's bin; f is its outline, and g its event
+  -- an effect on an entry that was carried out is on the lane of the entry's bin; f is its outline, and g its event
   stored : (f : CellName → Outline) (g : CellName → Event) (c : CellName) → ((r k : ℕ) → event_of r (f c) k ≡ g c)
       → ((x : Mark) (before : List Mark) → Goes program task_effects before x (part x.lane before) (g c) → Stores task_effects before x c)
       → (r n i : ℕ) (os : List Outline) → task_effects r n ≡ Some os → slice_get os i ≡ Some (f c) → carried_out r n i log ≡ true → StandsOn (bin_of r c) (g c) log

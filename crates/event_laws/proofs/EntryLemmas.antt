@@ -24,7 +24,7 @@ same_name_true a b e = let p = and_parts (a.version == b.version) (a.place == b.
 same_name_refl : (a : CellName) → same_name a a ≡ true
 same_name_refl a = and_from (a.version == a.version) (a.place == a.place) (eq-eqb a.version a.version refl) (eq-eqb a.place a.place refl)
 
--- where the last event of a name is a put, a put stands
+-- where the last event of a name is a put, the list has a put
 put_stands : (l : LaneName) (c : CellName) (log : List Mark) → is_put c (part l log) ≡ true → StandsOn l (Put c) log
 put_stands l c [] p = absurd (cc)
 put_stands l c (x ∷ log) p = go (put_stands l c log) (same_lane x.lane l) refl p

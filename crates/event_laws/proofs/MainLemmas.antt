@@ -138,7 +138,7 @@ pub record Started (k : ℕ) (o : Outline) (log : List Mark) : Type 0 where
 started_more : (k : ℕ) (o : Outline) (x : Mark) (log : List Mark) → Started k o log → Started k o (x ∷ log)
 started_more k o x log s = record { x = s.x; before = s.before; begins = begins_more (s.x ∷ s.before) log x s.begins; lane = s.lane; place = s.place; says = s.says; effect = s.effect }
 
--- a start that rank 0's main has done stands as an event
+-- a start that rank 0's main has done is an event of the list
 module _ (ranks workers : ℕ) (program : List Doing) (task_effects : TaskEffects) where
   undone_as : (o : Option Item) (e : Event) → is_done None e ≡ false → ((c : Item) → is_done (Some c) e ≡ false) → is_done o e ≡ true → ⊥
   undone_as None e n s d = let z : false ≡ true = sym n ∙ d in cc

@@ -8,7 +8,7 @@ abbrev pub Has : {A : Type 0} → List A → A → Type 0
 Has [] a = ⊥
 Has (x ∷ xs) a = (x ≡ a) ⊎ Has xs a
 
--- no element stands twice
+-- no element is there twice
 abbrev pub Distinct : {A : Type 0} → List A → Type 0
 Distinct [] = Unit {0}
 Distinct (x ∷ xs) = (Has xs x → ⊥) × Distinct xs

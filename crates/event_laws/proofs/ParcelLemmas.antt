@@ -1,4 +1,4 @@
--- What a message carries is handed on at the rank that it was sent to.
+-- What a message carries is delivered at the rank that it was sent to.
 use Rattle.std.proofs.Common.{◌≡◌, ◌⊎◌, ℕ, ◌≤◌, Bool, true, false, List, [], ◌∷◌, ◌++◌, refl, sym, ap, ◌∙◌, subst, inl, inr, ⊎_elim, arith}
 use Rattle.std.specs.Prelude.{if◌then◌else◌, ◌==◌, Option, Some}
 use Rattle.std.proofs.lemmas.Bool.{eqb-true}
@@ -46,7 +46,7 @@ handed_more l r n x log (inl u) = inl (u.0, u.1, inr u.2, sent_more r n (Spawned
 handed_more l r n x log (inr g) = inr (g.0, inr g.1, sent_more r n (Give g.0) x log g.2)
 
 module _ (ranks workers : ℕ) where
-  -- a lane that has a message in hand, which is no longer fresh, has handed on what the message carries
+  -- a lane that has a message in hand, which is no longer fresh, has delivered what the message carries
   pub handed : (log : List Mark) → Legal ranks workers log → (l : LaneName) (r n : ℕ) → in_hand (part l log) ≡ Some (Message r n) → is_fresh (part l log) ≡ false → OfUnit l r n log ⊎ OfGive l r n log
   handed [] h l r n hand fresh = absurd (cc)
   handed (x ∷ log) h l r n hand fresh = by_lane (λ a b. handed log h.1 l r n a b) (same_lane x.lane l) refl hand fresh
@@ -92,7 +92,7 @@ module _ (ranks workers : ℕ) where
   pub sent_begins : (r n q : ℕ) (p : Parcel) (old log : List Mark) → Begins old log → IsSent r n q p old → IsSent r n q p log
   sent_begins r n q p old log to s = (s.0, s.1, on_begins s.0 (Sent n q p) old log to s.2)
 
-  -- where all messages are handled, what each carries is handed on where it was sent to
+  -- where all messages are handled, what each carries is delivered where it was sent to
   pub handed_on : (log : List Mark) → Legal ranks workers log → AllHandledOnce log → (r n to : ℕ) (p : Parcel) → IsSent r n to p log → IsHandedOn to p log
   handed_on log h all r n to p s =
       let there = (all r n to p s).1 in
@@ -114,7 +114,7 @@ module _ (ranks workers : ℕ) where
   pub arrives : (log : List Mark) → Legal ranks workers log → AllHandledOnce log → (r n to : ℕ) (u : Label) (d : Option Label) → IsSent r n to (Spawned u d) log → (k : ℕ) × (t : TaskName) × (t.unit ≡ u) × IsSubmitted to k t log
   arrives log h all r n to u d s = let a = handed_on log h all r n to (Spawned u d) s in (a.0, a.1, a.2, a.4)
 
-  -- so a spawn that stands has its unit submitted at its home
+  -- so a spawn in the list has its unit submitted at its home
   pub spawn_arrives : (log : List Mark) → Legal ranks workers log → AllHandledOnce log → (l : LaneName) (r : ℕ) (e : Event) (u : Label) (d : Option Label) (ns : List Label) (home : ℕ) → l.rank ≡ r → StandsOn l e log → Says r (of.Spawn u d ns home) e
       → (k : ℕ) × (t : TaskName) × (t.unit ≡ u) × IsSubmitted home k t log
   spawn_arrives log h all l r e u d ns home rank s says = go (home == r) refl (subst (λ (z : Event). StandsOn l z log) says.1 s)

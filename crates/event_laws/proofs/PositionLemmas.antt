@@ -1,4 +1,4 @@
--- Where an event stands in a list, which of two comes first, and what it met there.
+-- Where an event is in a list, which of two comes first, and what it met there.
 use Rattle.std.proofs.Common.{◌≡◌, ◌⊎◌, ℕ, true, ◌&&◌, List, [], ◌∷◌, ◌++◌, refl, sym, ap, ◌∙◌, subst, inl, inr, ⊎_elim}
 use Rattle.std.specs.Prelude.{◌==◌, Option, Some}
 use Rattle.std.proofs.lemmas.Bool.{and_from, eq-eqb, or_cases, or_left, or_right}
@@ -28,7 +28,7 @@ begins_before y x old before b = ⊎_elim
     (λ c. begins_tail y old before c)
     (begins_cons y x old before b)
 
--- of two events of a list, both are one, or one stands before the other
+-- of two events of a list, both are one, or one is before the other
 pub order : (x y : Mark) (b c log : List Mark) → Begins (x ∷ b) log → Begins (y ∷ c) log → ((x ≡ y) × (b ≡ c)) ⊎ (Begins (x ∷ b) c ⊎ Begins (y ∷ c) b)
 order x y b c [] p q = absurd (begins_none x b p)
 order x y b c (z ∷ log) p q = ⊎_elim
@@ -42,7 +42,7 @@ order x y b c (z ∷ log) p q = ⊎_elim
     (begins_cons y z c log q))
     (begins_cons x z b log p)
 
--- what stands on a lane stands at a position
+-- an event on a lane is at a position
 pub stands_at : (l : LaneName) (e : Event) (log : List Mark) → StandsOn l e log → (x : Mark) × (before : List Mark) × Begins (x ∷ before) log × (x.lane ≡ l) × (x.event ≡ e)
 stands_at l e [] s = absurd s
 stands_at l e (x ∷ log) (inl i) = (x, log, begins_refl (x ∷ log), i.0, i.1)

@@ -26,7 +26,7 @@ behind : (xs : List Outline) (rest : List Doing) (j : ℕ) (o : Outline) → sli
 behind [] rest j o e = (j, e, refl)
 behind (x ∷ xs) rest j o e = let r = behind xs rest j o e in (suc r.0, r.1, r.2)
 
--- a start in the program is one of a work command, behind the fences before it
+-- a start in the program is one of a work command, after the fences before it
 pub start_of_command : (starts : ℕ → List Outline) (b : ℕ) (ks : List CommandKind) (k : ℕ) (o : Outline) → slice_get (program_from b ks starts) k ≡ Some (Start o)
     → (c : ℕ) × (i : ℕ) × (slice_get ks c ≡ Some Work) × (slice_get (starts (b + c)) i ≡ Some o) × (fences_in (take k (program_from b ks starts)) ≡ fences_before (suc c) ks)
 start_of_command starts b [] zero o e = absurd (let z : Wait ≡ Start o = cc in cc)
@@ -44,7 +44,7 @@ start_of_command starts b (Work ∷ ks) k o e = ⊎_elim
     (suc r.0, r.1, r.2, subst (λ (z : ℕ). slice_get (starts z) r.1 ≡ Some o) next r.3, there.2 ∙ r.4))
     (in_front (starts b) (program_from (suc b) ks starts) k o e)
 
--- and each start of a work command stands there
+-- and each start of a work command is there
 pub command_starts : (starts : ℕ → List Outline) (b : ℕ) (ks : List CommandKind) (c i : ℕ) (o : Outline) → slice_get ks c ≡ Some Work → slice_get (starts (b + c)) i ≡ Some o
     → (k : ℕ) × (slice_get (program_from b ks starts) k ≡ Some (Start o)) × (fences_in (take k (program_from b ks starts)) ≡ fences_before (suc c) ks)
 command_starts starts b [] c i o w e = absurd (cc)
@@ -77,7 +77,7 @@ stages kinds starts may started spawned = record {
   steps = λ p os i o u m e unit. ap (λ (z : ℕ). fences_before z kinds) (spawned p os i o u m e unit);
 }
 
--- where a start of a command stands in the program
+-- where a start of a command is in the program
 abbrev index_of : (ℕ → List Outline) → ℕ → List CommandKind → ℕ → ℕ → ℕ
 index_of starts b [] c i = 0
 index_of starts b (Work ∷ ks) zero i = i

@@ -163,7 +163,7 @@ module _ (ranks workers : ℕ) (program : List Doing) (may : Label → List Outl
     not_receipt : (e : Event) (u : Label) → e ≡ x.event → unit_in e ≡ Some u → ⊥
     not_receipt e u i j = let z : None ≡ Some u = sym (ap unit_in (i ∙ has.is)) ∙ j in cc
 
-    -- what stands behind the receipt or before it
+    -- what is after the receipt or before it
     after_or_before : (l : LaneName) (e : Event) (u : Label) (more : List Mark) → unit_in e ≡ Some u → StandsOn l e (more ++ x ∷ before) → StandsOn l e more ⊎ StandsOn l e before
     after_or_before l e u more i s = ⊎_elim
         (λ a. inl a)

@@ -31,7 +31,7 @@ pub record Spawns (u : Label) (log : List Mark) : Type 0 where
 later : (u : Label) (x : Mark) (log : List Mark) → Spawns u log → Spawns u (x ∷ log)
 later u x log s = record { x = s.x; before = s.before; begins = begins_trans (s.x ∷ s.before) log (x ∷ log) s.begins (x ∷ [], refl); label = s.label }
 
--- a label of a spawn stands among them, and each of them has a spawn
+-- a label of a spawn is among them, and each of them has a spawn
 pub spawn_in : (u : Label) (log : List Mark) → Contains (spawned log) u → Spawns u log
 spawn_in u [] h = let lt = h.1 in absurd (omega arith)
 spawn_in u (x ∷ log) h = go (λ k. spawn_in u log k) (spawn_label (in_hand (part x.lane log)) x.event) refl h

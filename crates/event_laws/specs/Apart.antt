@@ -29,7 +29,7 @@ abbrev pub spawned : List Mark → List Label
 spawned [] = []
 spawned (x ∷ log) = option_to_list (spawn_label (in_hand (part x.lane log)) x.event) ++ spawned log
 
--- no label stands twice
+-- no label is there twice
 abbrev pub Apart : List Label → Type 0
 Apart [] = Unit {0}
 Apart (u ∷ us) = (Contains us u → ⊥) × Apart us
@@ -48,7 +48,7 @@ pub record Brought (b : Bringer) (l : Label) (log : List Mark) : Type 0 where
   pub names : Contains (named_in x.event) l
   pub other : is_own l (own_due (in_hand (part x.lane before)) before) ≡ false
 
--- no label is brought up by two bringers
+-- no label is created by two bringers
 abbrev pub HasOneBringer : List Mark → Type 0
 HasOneBringer log = (b c : Bringer) (l : Label) → Brought b l log → Brought c l log → b ≡ c
 

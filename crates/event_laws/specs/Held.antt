@@ -13,7 +13,7 @@ use Rattle.event_lists.specs.Events.{part, Begins}
 use Rattle.event_lists.specs.Bins.{is_put}
 use Rattle.event_laws.specs.Follows.{bin_of}
 
--- how many fences stand among the first so many commands
+-- how many fences are among the first so many commands
 abbrev pub fences_before : ℕ → List CommandKind → ℕ
 fences_before zero ks = 0
 fences_before (suc c) [] = 0
@@ -28,7 +28,7 @@ IsBefore kinds command fence = fences_before command kinds < fence
 abbrev pub IsAfter : List CommandKind → ℕ → ℕ → Type 0
 IsAfter kinds command fence = fence ≤ fences_before command kinds
 
--- a receipt stands in a list, at a mark with a list before it
+-- a receipt is in a list, at a mark with a list before it
 pub record HasReceipt (log before : List Mark) (x : Mark) (r : Receipt) : Type 0 where
   pub begins : Begins (x ∷ before) log
   pub is : x.event ≡ Receives r

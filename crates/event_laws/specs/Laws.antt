@@ -25,7 +25,7 @@ TasksAreApart ranks program may =
     → (workers : ℕ) (task_effects : TaskEffects) (log : List Mark) → IsRun ranks workers program may task_effects log
     → (r n q m : ℕ) (t u : TaskName) → IsSubmitted r n t log → IsSubmitted q m u log → t.unit ≡ u.unit → (r ≡ q) × (n ≡ m) × (t ≡ u)
 
--- no label is brought up by two bringers
+-- no label is created by two bringers
 abbrev pub BringersAreOne : ℕ → List Doing → (Label → List Outline → Type 0) → Type 0
 BringersAreOne ranks program may =
     (parent raiser dues : Label → Option Label) → LabelsAreTree program may parent → BringsUp program may raiser dues

@@ -28,7 +28,7 @@ TasksAreDone ranks program may =
     (workers : ℕ) (task_effects : TaskEffects) (log before : List Mark) (x : Mark) (r : Receipt) → IsRun ranks workers program may task_effects log → HasReceipt log before x r
     → (rank number : ℕ) (t : TaskName) → IsSubmitted rank number t before → (os : List Outline) × IsDone may task_effects before rank t.unit os
 
--- what each message carries that was sent before the receipt was handed on at the rank that it was sent to
+-- what each message carries that was sent before the receipt was delivered at the rank that it was sent to
 abbrev pub MessagesAreHandedOn : ℕ → List Doing → (Label → List Outline → Type 0) → Type 0
 MessagesAreHandedOn ranks program may =
     (workers : ℕ) (task_effects : TaskEffects) (log before : List Mark) (x : Mark) (r : Receipt) → IsRun ranks workers program may task_effects log → HasReceipt log before x r

@@ -7,7 +7,7 @@ use Rattle.event_laws.specs.Follows.{Doing, Start, waits}
 use Rattle.event_laws.specs.Trees.{unit_of}
 use Rattle.event_laws.specs.Apart.{Apart}
 
--- how many fences stand in a program
+-- how many fences are in a program
 abbrev pub fences_in : List Doing → ℕ
 fences_in ds = length (waits ds)
 

@@ -22,8 +22,8 @@ pub record LabelsAreTree (program : List Doing) (may : Label → List Outline �
   pub start_once : (k j : ℕ) (o q : Outline) (u : Label) → slice_get program k ≡ Some (Start o) → slice_get program j ≡ Some (Start q) → unit_of o ≡ Some u → unit_of q ≡ Some u → k ≡ j
   pub step_once : (p : Label) (os : List Outline) (i j : ℕ) (o q : Outline) (u : Label) → may p os → slice_get os i ≡ Some o → slice_get os j ≡ Some q → unit_of o ≡ Some u → unit_of q ≡ Some u → i ≡ j
 
--- a future's label tells the label of the unit that brings it up, or that a command's start does; and a unit's label
--- tells the unit's due, which the unit itself doesn't bring up
+-- a future's label tells the label of the unit that creates it, or that a command's start does; and a unit's label
+-- tells the unit's due, which the unit itself doesn't create
 pub record BringsUp (program : List Doing) (may : Label → List Outline → Type 0) (raiser dues : Label → Option Label) : Type 0 where
   pub starts : (k : ℕ) (o : Outline) (l : Label) → slice_get program k ≡ Some (Start o) → Contains (named o) l → raiser l ≡ None
   pub steps : (p : Label) (os : List Outline) (i : ℕ) (o : Outline) (l : Label) → may p os → slice_get os i ≡ Some o → Contains (named o) l → dues p ≢ Some l → raiser l ≡ Some p

@@ -13,7 +13,7 @@ pub fn fences_order_commands()
     ensures end { let kinds : List CommandKindData = work ∷ fence ∷ work ∷ [] in IsBefore kinds 3 2 × (IsAfter kinds 3 2 → ⊥) }
 {}
 
-/// Places are different where none of them stands twice, next to one another or apart.
+/// Places are different where none of them is there twice, next to one another or apart.
 pub fn equal_places_are_refused()
     ensures none { AreDifferent [] }
     ensures different { AreDifferent (2 ∷ 3 ∷ 5 ∷ []) }

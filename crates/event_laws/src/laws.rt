@@ -30,7 +30,7 @@ pub fn spawns_of_a_tree_are_apart<A: Facts>()
     ensures tasks { (app : A) → TasksAreApart (A.ranks_of app) (program_from 1 (A.kinds_of app) (A.starts_of app)) (A.may_do app) }
 {}
 
-/// Where each future's label tells the label of the unit that brings it up, no label is brought up by two bringers.
+/// Where each future's label tells the label of the unit that creates it, no label is created by two bringers.
 pub fn a_label_has_one_bringer<A: Facts>()
     ensures { (app : A) → BringersAreOne (A.ranks_of app) (program_from 1 (A.kinds_of app) (A.starts_of app)) (A.may_do app) }
 {}

@@ -37,7 +37,7 @@ pub trait ListLaws: Facts {
         → IsRun (Self.ranks_of app) workers (program_from 1 (Self.kinds_of app) (Self.starts_of app)) (Self.may_do app) task_effects log
         → Apart (spawned log) };
 
-    /// No label is brought up by two bringers.
+    /// No label is created by two bringers.
     ghost one_bringer: { (app : Self) (task_effects : TaskEffects) (log : List MarkData) (workers : ℕ)
         → IsRun (Self.ranks_of app) workers (program_from 1 (Self.kinds_of app) (Self.starts_of app)) (Self.may_do app) task_effects log
         → HasOneBringer log };

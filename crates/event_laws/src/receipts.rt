@@ -1,14 +1,14 @@
 //! What holds at each receipt of a run, for any application: each function's contract is a law, and its body is empty.
 //!
 //! An application shows by these what its bins hold and what a receipt counts, from its plain data and with no
-//! induction on lists of events: it names the units that come up, each with its home and its effects.
+//! induction on lists of events: it names the units that are spawned, each with its home and its effects.
 ghost use Rattle.event_laws.specs.Follows.{program_from};
 ghost use Rattle.event_laws.specs.Receipts.{TasksAreDone, MessagesAreHandedOn, StartsAreDone, SpawnsAreDone, NothingComesLater, NothingComesEarlier, StagesAreTold, EntriesLie, EntriesStay, UnitsAreDone, UnitsFillTheBins, TotalsAreCounted};
 
 use app_core::Facts;
 
-/// At a receipt each task has carried out all of its effects, and what each message carries was handed on; each start before the fence, and each spawn of a unit that
-/// is done, has its unit done at its home.
+/// At a receipt each task has carried out all of its effects, and what each message carries was delivered; each start
+/// before the fence, and each spawn of a unit that is done, has its unit done at its home.
 pub fn all_before_the_fence_is_done<A: Facts>()
     ensures tasks { (app : A) → TasksAreDone (A.ranks_of app) (program_from 1 (A.kinds_of app) (A.starts_of app)) (A.may_do app) }
     ensures messages { (app : A) → MessagesAreHandedOn (A.ranks_of app) (program_from 1 (A.kinds_of app) (A.starts_of app)) (A.may_do app) }

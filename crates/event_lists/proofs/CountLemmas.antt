@@ -44,7 +44,7 @@ number_kind k n e i = absurd (cc)
 pub counts_here : (k : Kind) (n : ℕ) (x : Mark) → number k x.event ≡ Some n → one_if (counts k x.lane.rank x) ≡ 1
 counts_here k n x i = ap one_if (and_from (x.lane.rank == x.lane.rank) (is_kind k x.event) (eq-eqb x.lane.rank x.lane.rank refl) (number_kind k n x.event i))
 
--- the number of what stands is below the count
+-- the number of an event in the list is below the count
 pub stands_below : (ranks workers : ℕ) (log : List Mark) → Legal ranks workers log → (k : Kind) (n : ℕ) (x : Mark) → number k x.event ≡ Some n → Stands x log → n < count k x.lane.rank log
 stands_below ranks workers [] h k n x i s = absurd s
 stands_below ranks workers (y ∷ log) h k n x i (inl e) =
@@ -54,7 +54,7 @@ stands_below ranks workers (y ∷ log) h k n x i (inl e) =
     subst (λ (z : Mark). n < count k z.lane.rank (y ∷ log)) e (omega (arith, is, one))
 stands_below ranks workers (y ∷ log) h k n x i (inr s) = omega (arith, stands_below ranks workers log h.1 k n x i s)
 
--- what stands with a number below an earlier count stood then
+-- an event with a number below an earlier count was in the list then
 pub stood_below : (ranks workers : ℕ) (more log : List Mark) → Legal ranks workers (more ++ log) → (k : Kind) (n : ℕ) (x : Mark) → number k x.event ≡ Some n → Stands x (more ++ log) → n < count k x.lane.rank log → Stands x log
 stood_below ranks workers [] log h k n x i s below = s
 stood_below ranks workers (y ∷ more) log h k n x i (inl e) below =
@@ -64,7 +64,7 @@ stood_below ranks workers (y ∷ more) log h k n x i (inl e) below =
     absurd (omega (arith, is, same, count_grows k y.lane.rank more log))
 stood_below ranks workers (y ∷ more) log h k n x i (inr s) below = stood_below ranks workers more log h.1 k n x i s below
 
--- the number of what stands on a lane is below the count
+-- the number of an event on a lane is below the count
 pub on_below : (ranks workers : ℕ) (log : List Mark) → Legal ranks workers log → (k : Kind) (n : ℕ) (l : LaneName) (e : Event) → number k e ≡ Some n → StandsOn l e log → n < count k l.rank log
 on_below ranks workers [] h k n l e i s = absurd s
 on_below ranks workers (x ∷ log) h k n l e i (inl s) =

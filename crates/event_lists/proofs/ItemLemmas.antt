@@ -90,7 +90,7 @@ made_once ranks workers (x ∷ log) h c = go (made_once ranks workers log h.1 c)
     go rest true e = let none = new_item ranks workers log x h c (is_item_some c (makes x.lane.rank x.event) e) in omega arith
     go rest false e = omega (arith, rest)
 
--- what stands was made
+-- what is in the list was made
 pub made_here : (c : Item) (l : LaneName) (e : Event) (log : List Mark) → makes l.rank e ≡ Some c → StandsOn l e log → 1 ≤ times_made c log
 made_here c l e [] m s = absurd s
 made_here c l e (x ∷ log) m (inl i) =

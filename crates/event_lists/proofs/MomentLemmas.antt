@@ -17,7 +17,7 @@ use Rattle.event_lists.proofs.LaneLemmas.{same_lane_true}
 use Rattle.event_lists.proofs.ListLemmas.{begins_refl, begins_more}
 
 module _ (ranks workers q : ℕ) where
-  -- a reading that stands in the list was taken at one of its beginnings, in order
+  -- a reading in the list was taken at one of its beginnings, in order
   pub record Taken (r : Reading) (rest : List Reading) (log : List Mark) : Type 0 where
     pub at : List Mark
     pub begins : Begins at log
@@ -205,7 +205,7 @@ module _ (ranks workers q : ℕ) where
       absurd (both_ways (has_receipt f log) lacks (subst (λ (z : ℕ). has_receipt z log ≡ true) same a.1))
   inside_step log es _ f a lacks i = i
 
-  -- a main stays in a fence until its receipt stands
+  -- a main stays in a fence until it has its receipt
   pub stays_inside : (f : ℕ) (more log : List Mark) → Legal ranks workers (more ++ log) → has_receipt f (more ++ log) ≡ false → fence_in (part (main_of q) log) ≡ Some f → fence_in (part (main_of q) (more ++ log)) ≡ Some f
   stays_inside f [] log l lacks i = i
   stays_inside f (x ∷ more) log l lacks i =

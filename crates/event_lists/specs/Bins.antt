@@ -1,4 +1,4 @@
--- The fourth part of what an event asks of the list before it: puts and erases stand on bins' lanes alone, in turn.
+-- The fourth part of what an event asks of the list before it: puts and erases are on bins' lanes alone, in turn.
 use Rattle.std.specs.Prelude.{◌≡◌, Bool, true, false, not, ◌&&◌, ◌||◌, ◌==◌, List, [], ◌∷◌}
 use Rattle.app_core.specs.declared.label.CellName.{CellName}
 use Rattle.event_lists.specs.declared.lane.LaneName.{LaneName}

@@ -31,12 +31,12 @@ part l (x ∷ log) = if same_lane x.lane l then x.event ∷ part l log else part
 abbrev pub Begins : List Mark → List Mark → Type 0
 Begins old now = (more : List Mark) × (now ≡ more ++ old)
 
--- the mark stands in the list
+-- the mark is in the list
 abbrev pub Stands : Mark → List Mark → Type 0
 Stands x [] = ⊥
 Stands x (y ∷ log) = (y ≡ x) ⊎ Stands x log
 
--- the event stands in the list, on this lane
+-- the event is in the list, on this lane
 abbrev pub StandsOn : LaneName → Event → List Mark → Type 0
 StandsOn l e [] = ⊥
 StandsOn l e (x ∷ log) = ((x.lane ≡ l) × (x.event ≡ e)) ⊎ StandsOn l e log
@@ -59,7 +59,7 @@ number _ _ = None
 abbrev pub counts : Kind → ℕ → Mark → Bool
 counts k r x = (x.lane.rank == r) && is_kind k x.event
 
--- how many events of a kind stand on the lanes of a rank
+-- how many events of a kind are on the lanes of a rank
 abbrev pub count : Kind → ℕ → List Mark → ℕ
 count k r [] = 0
 count k r (x ∷ log) = (if counts k r x then 1 else 0) + count k r log

@@ -89,7 +89,7 @@ abbrev pub is_receipt : ℕ → Event → Bool
 is_receipt f (Receives r) = r.fence == f
 is_receipt f _ = false
 
--- whether a receipt of the fence stands
+-- whether the fence has a receipt
 abbrev pub has_receipt : ℕ → List Mark → Bool
 has_receipt f [] = false
 has_receipt f (x ∷ log) = is_receipt f x.event || has_receipt f log

@@ -1,4 +1,4 @@
--- Futures: who brought them up, which task or message has one as its due, which task needs them, and who gave them.
+-- Futures: who created them, which task or message has one as its due, which task needs them, and who gave them.
 use Rattle.std.specs.Prelude.{◌≡◌, ◌⊎◌, ℕ, ◌+◌, Bool, true, false, not, ◌&&◌, ◌||◌, ◌==◌, if◌then◌else◌, List, [], ◌∷◌, Option, Some, None, map}
 use Rattle.std.specs.List.{list_any}
 use Rattle.app_core.specs.declared.label.Label.{Label}
@@ -57,7 +57,7 @@ is_own d None = false
 is_own d (Some f) = same_label d f.label
 
 -- the future of a spawn's due, on a lane of this rank with this in hand, whose own due is this: the own due where it has
--- its label or a message is in hand, and else one that is brought up
+-- its label or a message is in hand, and else one that is created
 abbrev pub due_of_spawn : ℕ → Option Item → Option Future → Option Label → Option Future
 due_of_spawn r (Some (Message q m)) own d = own
 due_of_spawn r h own None = None

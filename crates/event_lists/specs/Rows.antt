@@ -6,7 +6,7 @@ use Rattle.event_lists.specs.declared.receipt.Row.{Row}
 abbrev pub max_ranks : ℕ
 max_ranks = 16
 
--- what fills the places behind the rows
+-- what fills the positions after the rows
 abbrev pub no_row : Row
 no_row = record { sent = 0; handled = 0; tasks = 0 }
 

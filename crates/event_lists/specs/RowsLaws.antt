@@ -18,7 +18,7 @@ rows_back rows count are =
 pub back : (a : Inside) → AreRows a.rows a.count → record { rows = take a.count a.rows ++ replicate (16 - length (take a.count a.rows)) no_row; count = length (take a.count a.rows) } ≡ a
 back a are = rw (rows_back a.rows a.count are, count_back a.rows a.count are) refl
 
--- rows copied to the front of an empty array
+-- rows copied to the start of an empty array
 pub made : (rows front : List Row) → front ≡ rows → length rows ≤ 16 → AreRows (front ++ drop (length rows) (replicate 16 no_row)) (length rows)
 made rows front is within =
     let filled = drop-replicate (length rows) 16 no_row in

@@ -1,4 +1,4 @@
-//! Futures, and who brings them up.
+//! Futures, and who creates them.
 use app_core::Label;
 
 /// Who spawns: the main of a rank, or task `number` of rank `rank`.
@@ -8,7 +8,7 @@ pub enum Bringer {
     Task { rank: u32, number: u64 },
 }
 
-/// A future: who brought it up, with a label.
+/// A future: who created it, with a label.
 #[derive(Clone, Copy, Debug, PartialEq, Eq, PartialOrd, Ord, Hash)]
 pub struct Future {
     pub by: Bringer,

@@ -1,6 +1,6 @@
-//! Events of a run, the rules that make a list of them legal, and what a fence's receipt tells of such a list.
+//! Events of a run, the rules that make a list of them legal, and what a fence's receipt says of such a list.
 //!
-//! The definitions stand in `specs/`; lists of events have the newest first. This crate has the events as plain data,
+//! The definitions are in `specs/`; lists of events have the newest first. This crate has the events as plain data,
 //! and laws about the definitions, each a contract with an empty body. The rules of the two passes over messages sent
 //! and handled are after Mattern's four-counter method, which the fence of MADNESS uses too; the counting of tasks in
 //! numbers that only grow, the order of the readings and the receipt are this project's own.

@@ -17,7 +17,7 @@ use Rattle.event_rules.specs.declared.values.Load.{Load}
 use Rattle.event_rules.specs.declared.values.Load.TheVariants as of
 use Rattle.event_rules.specs.Shown.{load_made, load_of, spawner_of}
 
--- what stands is what was made
+-- what is in the list is what was made
 pub stands_load : (ranks workers : ℕ) (log : List Mark) → Legal ranks workers log → (l : LaneName) (e : Event) (c : Item) → makes l.rank e ≡ Some c → StandsOn l e log → load_of c log ≡ load_made e
 stands_load ranks workers [] h l e c m s = absurd s
 stands_load ranks workers (x ∷ log) h l e c m s = go s (stands_load ranks workers log h.1 l e c m) (is_item c (makes x.lane.rank x.event)) refl
@@ -31,7 +31,7 @@ stands_load ranks workers (x ∷ log) h l e c m s = go s (stands_load ranks work
         absurd (cc)
     go (inr s) rest false t = rest s
 
--- what was made stands
+-- what was made is in the list
 pub load_stands : (c : Item) (d : Load) (log : List Mark) → load_of c log ≡ Some d → (l : LaneName) × (e : Event) × (makes l.rank e ≡ Some c) × (load_made e ≡ Some d) × StandsOn l e log
 load_stands c d [] i = absurd (cc)
 load_stands c d (x ∷ log) i = go (load_stands c d log) (is_item c (makes x.lane.rank x.event)) refl i

@@ -33,7 +33,7 @@ abbrev pub spawner_of : Item → List Mark → Option Bringer
 spawner_of c [] = None
 spawner_of c (x ∷ log) = if is_item c (makes x.lane.rank x.event) then bringer x.lane.rank (in_hand (part x.lane log)) else spawner_of c log
 
--- where a lane stands
+-- the state of a lane
 pub record ShowsLane (log : List Mark) (l : LaneName) (s : LaneState) : Type 0 where
   pub hand : s.hand ≡ in_hand (part l log)
   pub own : s.own ≡ own_due (in_hand (part l log)) log

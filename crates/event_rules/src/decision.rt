@@ -18,7 +18,7 @@ pub fn allows<P: Past>(past: &P, lane: LaneName, event: &Event) -> bool
     ensures { IsTrue result ↔ May (P.ranks_of past.now) (P.workers_of past.now) (P.log_of past.now)
         (record { lane = lane; event = event.now; effect = None }) }
 {
-    // Nothing more is asked of what stands on a bin's lane.
+    // Nothing more is asked of events on a bin's lane.
     is_lane(past, lane)
         && fits_its_bin(past, lane, event)
         && (lane.bin || is_right(past, lane, event))

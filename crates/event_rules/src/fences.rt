@@ -26,7 +26,7 @@ pub fn may_enter<P: Past>(past: &P, lane: LaneName, state: &LaneState, fence: u3
         && !past.lacks_dues(Bringer::Main { rank: lane.rank })
 }
 
-/// Whether a main may leave a fence: it is in it, with nothing in hand, and the receipt stands.
+/// Whether a main may leave a fence: it is in it, with nothing in hand, and the fence has its receipt.
 pub fn may_leave<P: Past>(past: &P, lane: LaneName, state: &LaneState, fence: u32) -> bool
     requires shown { ShowsLane (P.log_of past.now) lane state.now }
     ensures { IsTrue result ↔ Asks (P.ranks_of past.now) (P.log_of past.now) lane (Leave fence) }

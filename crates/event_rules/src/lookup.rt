@@ -13,7 +13,7 @@ use event_lists::{Bringer, Future, Item, Kind, LaneName, Row};
 
 /// A list of events over a number of ranks and workers, of which these things are known.
 ///
-/// Each call answers what its definition says of the list.
+/// Each call returns what its definition says of the list.
 pub trait Past {
     ghost ranks_of: { Self → ℕ };
 
@@ -28,7 +28,7 @@ pub trait Past {
     fn workers(&self) -> u32
         ensures { result ≡ workers_of self.now };
 
-    /// Where a lane stands.
+    /// The state of a lane.
     fn lane(&self, lane: LaneName) -> LaneState
         ensures { ShowsLane (log_of self.now) lane result };
 
@@ -44,7 +44,7 @@ pub trait Past {
     fn lacks_dues(&self, bringer: Bringer) -> bool
         ensures { IsFalse result ↔ NeedsAreDues bringer (log_of self.now) };
 
-    /// How many events of a kind stand on the lanes of a rank.
+    /// How many events of a kind are on the lanes of a rank.
     fn count(&self, kind: Kind, rank: u32) -> u64
         requires { rank < ranks_of self.now }
         ensures { result ≡ count kind rank (log_of self.now) };
@@ -53,7 +53,7 @@ pub trait Past {
     fn row(&self, fence: u32, pass: u64, rank: u32) -> Option<Row>
         ensures { result ≡ row_of fence pass (part (main_of rank) (log_of self.now)) };
 
-    /// Whether a receipt of a fence stands.
+    /// Whether a fence has a receipt.
     fn has_receipt(&self, fence: u32) -> bool
         ensures { result ≡ has_receipt fence (log_of self.now) };
 

@@ -72,7 +72,7 @@ pub struct Recent {
     pub third: Option<Reading>,
 }
 
-/// Where a lane stands.
+/// The state of a lane.
 #[derive(Clone, Copy, Debug, PartialEq, Eq)]
 pub struct LaneState {
     /// The message or task that it has in hand.

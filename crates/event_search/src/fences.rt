@@ -7,7 +7,7 @@ use crate::lanes::newest_on;
 use event_lists::{Event, Kind, LaneName, Mark, Reading, Row};
 use event_rules::{Recent, events};
 
-/// How many events of a kind stand on the lanes of a rank.
+/// How many events of a kind are on the lanes of a rank.
 pub fn count(kind: Kind, rank: u32, marks: &[Mark]) -> u64
     ensures count { result ≡ count kind rank (reverse marks.now) }
     ensures within { result ≤ length marks.now }
@@ -110,7 +110,7 @@ pub fn row_of(fence: u32, pass: u64, lane: LaneName, marks: &[Mark]) -> Option<R
     }
 }
 
-/// Whether a receipt of a fence stands.
+/// Whether a fence has a receipt.
 pub fn has_receipt(fence: u32, marks: &[Mark]) -> bool
     ensures { result ≡ has_receipt fence (reverse marks.now) }
 {

@@ -1,4 +1,4 @@
-//! A list of events as it stands, which is searched for each answer.
+//! A list of events alone, which is searched for each answer.
 //!
 //! [`SearchedList`] keeps the events of a run in order, judges each new one by the rules of `event_rules`, and finds
 //! what these ask for by plain searches that read as the definitions do. It is the program of the definitions: short,

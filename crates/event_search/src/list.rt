@@ -68,8 +68,8 @@ impl SearchedList {
         self.marks.as_slice()
     }
 
-    /// Adds an event on a lane, where the longer list is legal. False exactly where it isn't, and then the list stays
-    /// as it is. Want of memory for an event that may be added leaves it as it is too.
+    /// Adds an event on a lane, when the longer list is legal. False exactly when it isn't, and then the list stays
+    /// as it is. When memory is refused for an event that may be added, it stays as it is too.
     pub fn add(&mut self, lane: LaneName, event: &Event) -> Result<bool, OutOfMemory>
         ensures allowed { IfOk result (λ added. IsTrue added ↔ Allows self.old lane event.now) }
         ensures added { IfOk result (λ added. IsTrue added → self.new ≡ record self.old { log = on lane event.now ∷ self.old.log }) }

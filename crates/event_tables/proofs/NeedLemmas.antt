@@ -67,7 +67,7 @@ free_needs b log l mine (Submitted n t) dues by = go (in_hand mine) dues by
     go (Some (Message r m)) s by = absurd (cc)
 free_needs b log l mine _ dues by = record { free = tt; distinct = tt }
 
--- no label stands twice among those that the spawns of a bringer needed
+-- no label is twice among those that the spawns of a bringer needed
 pub needed_apart : (ranks workers : ℕ) (b : Bringer) (log : List Mark) → Legal ranks workers log → Apart (needed_by b log)
 needed_apart ranks workers b [] h = tt
 needed_apart ranks workers b (x ∷ log) h = go (needed_apart ranks workers b log h.1) (is_bringer b (bringer x.lane.rank (in_hand (part x.lane log)))) refl

@@ -32,7 +32,7 @@ Notes due needed given old new = (f : Future) → value_at same_future new f ≡
 abbrev pub HasRoom : Table Future Found → (Future → Bool) → Type 0
 HasRoom t these = (f : Future) → these f ≡ true → has_place same_future t f ≡ true
 
--- there is room to note an event on a lane of this rank, which stands so
+-- there is room to note an event on a lane of this rank, which is in this state
 pub record HasRoomFor (t : Table Future Found) (r : ℕ) (s : LaneState) (e : Event) : Type 0 where
   pub due : HasRoom t (is_due_of (bringer r s.hand) (spawned_due e))
   pub needs : HasRoom t (is_need_of (bringer r s.hand) (spawned_needs e))

@@ -53,7 +53,7 @@ pub record HasSameValues (s t : Indexes) : Type 0 where
   pub receipts : (f : ℕ) → value_at (λ a b. a == b) t.receipts f ≡ value_at (λ a b. a == b) s.receipts f
   pub puts : (e : EntryName) → value_at same_entry t.puts e ≡ value_at same_entry s.puts e
 
--- there is room to note an event on a lane that stands so
+-- there is room to note an event on a lane in this state
 pub record HasRoom (t : Indexes) (s : LaneState) (l : LaneName) (e : Event) : Type 0 where
   pub lanes : has_place same_lane t.lanes l ≡ true
   pub items : (c : Item) → item_of l.rank e ≡ Some c → has_place same_item t.items c ≡ true

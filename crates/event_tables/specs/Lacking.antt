@@ -36,6 +36,6 @@ is_lacked t b due d = not (is_due d due || (found_of t b d).due)
 abbrev pub lacked : Table Future Found → Bringer → Option Label → List Label → ℕ
 lacked t b due needs = count_by (is_lacked t b due) needs
 
--- there is room for who spawns with an event on a lane of this rank that stands so
+-- there is room for who spawns with an event on a lane of this rank in this state
 abbrev pub HasSpawner : Table Bringer ℕ → ℕ → LaneState → Event → Type 0
 HasSpawner t r s e = (b : Bringer) → spawner r s.hand e ≡ Some b → has_place same_bringer t b ≡ true

@@ -1,4 +1,4 @@
-//! How many events of each kind stand at each rank.
+//! How many events of each kind each rank has.
 ghost use Rattle.std.specs.Prelude.{◌≡◌, ℕ, ◌<◌, List, ◌∷◌, length, true, Some, OnOk};
 ghost use Rattle.event_lists.specs.declared.kind.Kind.{Kind as KindData};
 ghost use Rattle.event_lists.specs.declared.mark.Mark.{Mark as MarkData};

@@ -46,7 +46,7 @@ pub fn empty(alloc: Global) -> Table<Future, Found>
     Table::new(alloc, NOTHING)
 }
 
-/// Makes room to note an event on a lane that stands so.
+/// Makes room to note an event on a lane in this state.
 pub fn room(
     futures: &mut Table<Future, Found>,
     state: &LaneState,
@@ -110,7 +110,7 @@ fn room_for(futures: &mut Table<Future, Found>, future: Option<Future>) -> Resul
     }
 }
 
-/// Notes an event, for which there is room, on a lane that stood so before.
+/// Notes an event, for which there is room, on a lane that was in this state before.
 pub fn note(futures: &mut Table<Future, Found>, state: &LaneState, lane: LaneName, event: &Event)
     requires room { HasRoomFor futures.old lane.rank state.now event.now }
     ensures { (log : List MarkData) → ShowsLane log lane state.now → KeepsFutures log futures.old → KeepsFutures (on lane event.now ∷ log) futures.new }

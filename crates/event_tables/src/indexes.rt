@@ -60,7 +60,7 @@ impl Indexes {
         }
     }
 
-    /// Makes room for an event on a lane that stands so.
+    /// Makes room for an event on a lane in this state.
     pub fn room(
         &mut self,
         state: &LaneState,
@@ -80,7 +80,7 @@ impl Indexes {
         puts::room(&mut self.puts, lane, event)
     }
 
-    /// Notes an event, for which there is room, on a lane that stood so before.
+    /// Notes an event, for which there is room, on a lane that was in this state before.
     pub fn note(&mut self, state: &LaneState, lane: LaneName, event: &Event)
         requires room { HasRoom self.old state.now lane event.now }
         ensures { (ranks workers : ℕ) (log : List MarkData) → Legal ranks workers (on lane event.now ∷ log) → length log < max_events

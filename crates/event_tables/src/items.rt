@@ -47,8 +47,8 @@ fn taken_once(made: Option<Made>) -> Option<Made>
     }
 }
 
-// What is known of a message or task after an event that makes or takes it. `state` is that of the lane of this rank
-// on which the event stands.
+// What is known of a message or task after an event that makes or takes it. `state` is that of the event's lane, which
+// is of this rank.
 fn made_after(made: Option<Made>, state: &LaneState, rank: u32, event: &Event) -> Option<Made>
     ensures made { (d : LoadData) → made_load event.now ≡ Some d
         → result ≡ Some (record { load = d; by = bringer_of rank state.now.hand; due = made_due rank state.now.hand state.now.own event.now; taken = false }) }

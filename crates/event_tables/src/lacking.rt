@@ -32,7 +32,7 @@ pub fn lacks_dues(lacking: &Table<Bringer, u64>, by: Bringer) -> bool
     lacking.get(by) > 0
 }
 
-/// Makes room to note an event on a lane that stands so.
+/// Makes room to note an event on a lane in this state.
 pub fn room(
     lacking: &mut Table<Bringer, u64>,
     state: &LaneState,
@@ -49,7 +49,8 @@ pub fn room(
     }
 }
 
-/// Notes an event, for which there is room, on a lane that stood so before. The futures are those before the event.
+/// Notes an event, for which there is room, on a lane that was in this state before. The futures are those before the
+/// event.
 pub fn note(
     lacking: &mut Table<Bringer, u64>,
     futures: &Table<Future, Found>,

@@ -1,4 +1,4 @@
-//! Where each lane stands.
+//! The state of each lane.
 ghost use Rattle.std.specs.Prelude.{◌≡◌, ℕ, ◌<◌, List, ◌∷◌, length, true, OnOk};
 ghost use Rattle.event_lists.specs.declared.event.Event.{Event as EventData};
 ghost use Rattle.event_lists.specs.declared.lane.LaneName.{LaneName as LaneNameData};
@@ -23,7 +23,7 @@ const NOTHING_READ: Recent = Recent {
     third: None,
 };
 
-/// Where a lane stands after an event on it. `due` is that of the message or task which the event takes.
+/// The state of a lane after an event on it. `due` is that of the message or task which the event takes.
 pub fn after(state: &LaneState, event: &Event, due: Option<Future>) -> LaneState
     ensures { (ranks workers : ℕ) (log : List MarkData) (lane : LaneNameData) → Legal ranks workers (on lane event.now ∷ log) → length log < max_events
         → IsDueTaken event.now due log → ShowsLane log lane state.now → ShowsLane (on lane event.now ∷ log) lane result }

@@ -17,14 +17,14 @@ use std::marker::Model;
 use std::sync::{Mutex, Wait};
 use thiserror::Error;
 
-/// Why a value wasn't assigned. Each hands it back.
+/// Why a value wasn't assigned. Each gives it back.
 #[derive(Debug, PartialEq, Eq, Drop, Error)]
 #[error_bound(T: Debug + Drop)]
 pub enum AssignError<T> {
     /// The future has a value.
     #[error("the future has a value")]
     Already(T),
-    /// There is no memory for the value.
+    /// Memory was refused for the value.
     #[error("out of memory")]
     OutOfMemory(T),
 }
@@ -97,9 +97,9 @@ impl<T: Drop> FutureCell<T> {
         self.value.get_as(note)
     }
 
-    /// Gives the future its value, and hands out the callbacks that were added so far, in order; no later one is
+    /// Gives the future its value, and returns the callbacks that were added so far, in order; no later one is
     /// added. It may wait for other threads. `Already` where the future has a value: of the two refusals, exactly
-    /// where the note knows one as the call ends. `OutOfMemory` where there is no memory for the value. Each hands
+    /// where the note knows one as the call ends. `OutOfMemory` when memory is refused for the value. Each gives
     /// the value back.
     pub fn assign<R: Wait>(
         &self,
@@ -123,9 +123,9 @@ impl<T: Drop> FutureCell<T> {
         settle(self.alloc, &self.value, &mut pending, note, boxed)
     }
 
-    /// Adds a callback, to be handed out when the future gets its value. It may wait for other threads. `Assigned`
-    /// where the future has a value: exactly where the note knows one as the call ends. `OutOfMemory` where there is
-    /// no memory for the callback. Each hands it back.
+    /// Adds a callback, which `assign` returns when the future gets its value. It may wait for other threads.
+    /// `Assigned` where the future has a value: exactly where the note knows one as the call ends. `OutOfMemory` when
+    /// memory is refused for the callback. Each gives it back.
     pub fn on_assigned<R: Wait>(
         &self,
         rt: &R,

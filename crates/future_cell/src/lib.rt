@@ -2,7 +2,7 @@
 //!
 //! A [`FutureCell`] is shared by reference among threads. A caller looks it up through a [`CellNote`], which takes no
 //! bytes and carries what the caller knows: a note that knows a value goes on knowing it, and any two notes of one
-//! cell that know a value know the same one. What waits for the value stands in a [`Pending`] behind a lock. This is
+//! cell that know a value know the same one. What waits for the value is in a [`Pending`] behind a lock. This is
 //! after the futures of MADNESS, which keep their callbacks until they have a value.
 #![tactic(auto)]
 

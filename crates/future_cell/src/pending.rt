@@ -15,7 +15,7 @@ pub enum NotAdded {
     /// The future has a value: what is to be done can be done at once.
     #[error("the future has a value")]
     Assigned(Callback),
-    /// There is no memory for one more callback.
+    /// Memory was refused for one more callback.
     #[error("out of memory")]
     OutOfMemory(Callback),
 }
@@ -52,7 +52,7 @@ impl Pending {
     }
 
     /// Adds the callback last. The first one takes no memory. `Assigned` exactly where the state is closed;
-    /// `OutOfMemory` where there is no memory for a later one. Each hands the callback back, and the state stays.
+    /// `OutOfMemory` when memory is refused for a later one. Each gives the callback back, and the state stays.
     pub fn add(&mut self, callback: Callback) -> Result<(), NotAdded>
         ensures added { OnOk result (self.new.callbacks ≡ self.old.callbacks ++ callback ∷ []) }
         ensures open { OnOk result (self.new.closed ≡ false) }

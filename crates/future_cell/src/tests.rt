@@ -1,5 +1,5 @@
 //! What no clause says: that memory suffices, that a new note finds the value that another note assigned, and which
-//! callbacks `assign` hands out. The answers are worked out by hand.
+//! callbacks `assign` returns. The answers are worked out by hand.
 ghost use Rattle.std.specs.Prelude.{◌≡◌, IsTrue, Some};
 
 use crate::{

@@ -58,7 +58,7 @@ only_the_due_is_given ranks Guess given = (refl, tt)
 only_the_due_is_given ranks Early given = on_a_guess (λ es. AllByRecursion (GivesOnly (Some guess_result)) (told ranks es)) (tt, (refl, tt)) (tt, tt) given
 only_the_due_is_given ranks Late given = (tt, (refl, tt))
 
--- a step of these units brings up no future but the due of its unit
+-- a step of these units creates no future
 pub names_the_due : (ranks : ℕ) (unit : GuessUnit) (given : Given ℕ ℕ) (future : Label) → Names (told ranks (step_of (Guessed unit) given)) future → due_of (Guessed unit) ≡ Some future
 names_the_due ranks Guess given future (k, lt, e) = absurd (omega (arith, lt))
 names_the_due ranks Early given future names = on_a_guess (λ es. Names (told ranks es) future → Some guess_result ≡ Some future) puts spawns given names

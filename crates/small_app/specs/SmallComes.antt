@@ -121,7 +121,7 @@ pub planned : (ranks : ℕ) (u : Label) (os : List Outline) → u.command < 5 �
 planned ranks u os lt (unit, given, is, label, right, lists) =
     lists ∙ same_effects ranks unit given (subst (λ (l : Label). l.command < 5) (sym label) lt) ∙ ap (outlines_of ranks) (sym (at_label unit is)) ∙ ap (plan ranks) label
 
--- no label stands twice in these lists
+-- no label is twice in these lists
 
 stands_in : Label → List Label → Bool
 stands_in u [] = false

@@ -1,4 +1,4 @@
--- Who brings up each future of the small application, which units put and erase an entry, where its units are, and what
+-- Who creates each future of the small application, which units put and erase an entry, where its units are, and what
 -- the eraser waits for.
 use Rattle.std.proofs.Common.{◌≡◌, ◌≢◌, ◌⊎◌, ℕ, zero, suc, ◌<◌, Bool, true, false, List, [], ◌∷◌, refl, sym, ap, subst, ◌∙◌, inl, inr, arith}
 use Rattle.std.specs.Prelude.{Option, Some, None, slice_get, slice_index, if◌then◌else◌, ◌==◌, Contains}

@@ -1,4 +1,4 @@
--- The labels of the small application's units form a tree, and tell who brings up each future.
+-- The labels of the small application's units form a tree, and tell who creates each future.
 use Rattle.std.proofs.Common.{◌≡◌, ℕ, zero, suc, Bool, true, false, List, refl, sym, ap, subst, ◌∙◌}
 use Rattle.std.specs.Prelude.{Some, None, slice_get, slice_index, if◌then◌else◌, ◌==◌}
 use Rattle.app_core.specs.declared.Label.{Label}

@@ -1,4 +1,4 @@
--- The small application's units by their labels, and what stands in the bins of it and is counted.
+-- The small application's units by their labels, and what its bins have and what is counted.
 use Rattle.std.specs.Prelude.{ℕ, zero, suc, ◌<◌, ◌==◌, if◌then◌else◌, true, false, List, [], ◌∷◌, Option, Some, None}
 use Rattle.app_core.specs.declared.Label.{Label}
 use Rattle.app_core.specs.declared.Outline.{Outline}
@@ -47,7 +47,7 @@ abbrev pub parent : Label → Option Label
 parent l =
     if l.command == 1 then (if l.part == 2 then Some (label_of Sum) else if l.part == 1 then Some (label_of Fill) else if l.place == 1 then None else Some (label_of Fill)) else if l.command == 5 then (if l.part == 2 then Some (label_of (Guessed Early)) else None) else None
 
--- the label of the unit that brings up the future of a label
+-- the label of the unit that creates the future of a label
 abbrev pub raiser : Label → Option Label
 raiser l = if l.command == 1 then (if l.place == 1 then None else Some (label_of Fill)) else None
 

@@ -65,7 +65,7 @@ pub fn totals_are_those_by_hand()
     ensures both_alone { units.total_of 1 2 ≡ (0, 8) }
 {}
 
-/// What ranks hold of version 1 behind the fence: rank 1 the left entry, and no other rank any, with four ranks; rank 0
+/// What ranks hold of version 1 after the fence: rank 1 the left entry, and no other rank any, with four ranks; rank 0
 /// the left entry with one.
 pub fn entries_held_are_those_by_hand()
     ensures first { units.holds 4 0 1 ≡ [] }

@@ -11,9 +11,9 @@ use std::marker::Brand;
 use std::sync::{Mutex, Wait};
 use std::thread::{Threads, join};
 
-/// Puts each value that is given into the table, and lets go of the other effects. At Ok none is left; that the values
-/// are in the table then isn't proved, since a lock's value is known by its type alone. `OutOfMemory` comes for want
-/// of memory alone, and the effects that weren't come to are left.
+/// Puts each value that is given into the table, and drops the other effects. At Ok none is left; that the values
+/// are in the table then isn't proved, since a lock's value is known by its type alone. `OutOfMemory` comes only when
+/// memory is refused, and the effects that weren't taken yet are left.
 pub fn give<A: App, J: Naming<A>, R: Wait>(
     rt: &R,
     app: &A,
@@ -85,8 +85,8 @@ fn give_and_look<A: App, J: Naming<A> + Send + Sync, R: Threads + Wait + Sync>(
 
 /// Makes the step of a unit on right inputs, and puts what it gives into a table behind a lock, while a second
 /// thread looks there for the value of a future. What is found is right. None comes only where the step doesn't
-/// give that future (not proved: a lock's value is known by its type alone). `OutOfMemory` comes for want of memory
-/// alone.
+/// give that future (not proved: a lock's value is known by its type alone). `OutOfMemory` comes only when memory
+/// is refused.
 pub fn step_and_look<A: App, R: Threads + Wait + Sync>(
     rt: &R,
     alloc: Global,
