@@ -1,54 +1,34 @@
 -- Room for events of any kind. Crates above use it too.
-use Rattle.std.proofs.Common.{◌≤◌, Option, Some, None, arith}
+use Rattle.std.proofs.Common.{◌≤◌, arith}
 use Rattle.event_lists.specs.declared.event.Event.{Event}
 use Rattle.event_lists.specs.declared.event.Event.TheVariants.{Sent, TookMessage, TookTask, Handled, Submitted, Ran, Gave, Put, Erased, ReadHandled, ReadRan, ReadSubmitted, ReadSent, Enter, Leave, Receipt}
-use Rattle.event_lists.specs.declared.event.Parcel.TheVariants.{Unit as Spawned, Give}
-use Rattle.app_core.specs.declared.label.Label.{Label}
-use Rattle.lane_trace.specs.Traces.{due_count, label_count, row_count, IsShort, AnyEventFits}
+use Rattle.lane_trace.specs.Traces.{need_count, row_count, IsShort, AnyEventFits}
 
-due_few : (d : Option Label) → due_count d ≤ 1
-due_few None = omega arith
-due_few (Some d) = omega arith
+record AreFew (e : Event) : Type 0 where
+  needs : need_count e ≤ 16
+  rows : row_count e ≤ 16
 
-labels_few : (e : Event) → IsShort e → label_count e ≤ 18
-labels_few (Sent n to (Spawned u d)) short = omega (arith, due_few d)
-labels_few (Submitted n t) short = omega (arith, short, due_few t.due)
-labels_few (Sent n to (Give f)) short = omega arith
-labels_few (TookMessage r n) short = omega arith
-labels_few (TookTask r n) short = omega arith
-labels_few (Handled n r m) short = omega arith
-labels_few (Ran n r t) short = omega arith
-labels_few (Gave f) short = omega arith
-labels_few (Put name) short = omega arith
-labels_few (Erased name) short = omega arith
-labels_few (ReadHandled v f p) short = omega arith
-labels_few (ReadRan v f p) short = omega arith
-labels_few (ReadSubmitted v f p) short = omega arith
-labels_few (ReadSent v f p) short = omega arith
-labels_few (Enter f) short = omega arith
-labels_few (Leave f) short = omega arith
-labels_few (Receipt r) short = omega arith
-
-rows_few : (e : Event) → IsShort e → row_count e ≤ 16
-rows_few (Sent n to p) short = omega arith
-rows_few (Submitted n t) short = omega arith
-rows_few (TookMessage r n) short = omega arith
-rows_few (TookTask r n) short = omega arith
-rows_few (Handled n r m) short = omega arith
-rows_few (Ran n r t) short = omega arith
-rows_few (Gave f) short = omega arith
-rows_few (Put name) short = omega arith
-rows_few (Erased name) short = omega arith
-rows_few (ReadHandled v f p) short = omega arith
-rows_few (ReadRan v f p) short = omega arith
-rows_few (ReadSubmitted v f p) short = omega arith
-rows_few (ReadSent v f p) short = omega arith
-rows_few (Enter f) short = omega arith
-rows_few (Leave f) short = omega arith
-rows_few (Receipt r) short = short
+few : (e : Event) → IsShort e → AreFew e
+few (Submitted n t) short = record { needs = short; rows = omega arith }
+few (Receipt r) short = record { needs = omega arith; rows = short }
+few (Sent n to p) short = record { needs = omega arith; rows = omega arith }
+few (TookMessage r n) short = record { needs = omega arith; rows = omega arith }
+few (TookTask r n) short = record { needs = omega arith; rows = omega arith }
+few (Handled n r m) short = record { needs = omega arith; rows = omega arith }
+few (Ran n r t) short = record { needs = omega arith; rows = omega arith }
+few (Gave f) short = record { needs = omega arith; rows = omega arith }
+few (Put name) short = record { needs = omega arith; rows = omega arith }
+few (Erased name) short = record { needs = omega arith; rows = omega arith }
+few (ReadHandled v f p) short = record { needs = omega arith; rows = omega arith }
+few (ReadRan v f p) short = record { needs = omega arith; rows = omega arith }
+few (ReadSubmitted v f p) short = record { needs = omega arith; rows = omega arith }
+few (ReadSent v f p) short = record { needs = omega arith; rows = omega arith }
+few (Enter f) short = record { needs = omega arith; rows = omega arith }
+few (Leave f) short = record { needs = omega arith; rows = omega arith }
 
 pub any_fits : AnyEventFits
 any_fits n room e within short =
-    let labels = labels_few e short in
-    let rows = rows_few e short in
-    ((omega (arith, within.0), omega (arith, within.1, labels), omega (arith, within.2, rows)), (omega (arith, within.0), omega (arith, within.1, labels), omega (arith, within.2, rows)))
+    let are = few e short in (
+      (omega (arith, within.0), omega (arith, within.1, are.needs), omega (arith, within.2, are.rows)),
+      (omega (arith, within.0), omega (arith, within.1, are.needs), omega (arith, within.2, are.rows)),
+    )

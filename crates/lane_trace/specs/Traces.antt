@@ -1,11 +1,8 @@
 -- What a trace is: the events of a lane, and the room that is left for more.
-use Rattle.std.specs.Prelude.{ℕ, ◌+◌, ◌-◌, ◌*◌, ◌≤◌, ⊤, List, length, Option, Some, None}
-use Rattle.app_core.specs.declared.label.Label.{Label}
+use Rattle.std.specs.Prelude.{ℕ, ◌+◌, ◌-◌, ◌*◌, ◌≤◌, ⊤, List, length, max}
 use Rattle.app_core.specs.Needs.{max_needs}
 use Rattle.event_lists.specs.declared.event.Event.{Event}
-use Rattle.event_lists.specs.declared.event.Event.TheVariants.{Sent, Submitted, Receipt as Receives}
-use Rattle.event_lists.specs.declared.event.Parcel.{Parcel}
-use Rattle.event_lists.specs.declared.event.Parcel.TheVariants.{Unit as Spawned, Give}
+use Rattle.event_lists.specs.declared.event.Event.TheVariants.{Submitted, Receipt as Receives}
 use Rattle.event_lists.specs.Rows.{max_ranks}
 use Rattle.lane_trace.specs.declared.room.Room.{Room}
 
@@ -14,20 +11,10 @@ pub record TraceData : Type 0 where
   pub events : List Event
   pub room : Room
 
--- one label where there is a due
-abbrev pub due_count : Option Label → ℕ
-due_count None = 0
-due_count (Some d) = 1
-
-abbrev pub parcel_count : Parcel → ℕ
-parcel_count (Spawned u d) = 1 + due_count d
-parcel_count (Give f) = 1
-
--- how many labels the room of an event has: those of a message's parcel, or of a task
-abbrev pub label_count : Event → ℕ
-label_count (Sent n to p) = parcel_count p
-label_count (Submitted n t) = 1 + length t.needs + due_count t.due
-label_count _ = 0
+-- how many needs an event has: those of a task
+abbrev pub need_count : Event → ℕ
+need_count (Submitted n t) = length t.needs
+need_count _ = 0
 
 -- how many rows: those of a receipt
 abbrev pub row_count : Event → ℕ
@@ -36,25 +23,31 @@ row_count _ = 0
 
 -- the room that an event takes
 abbrev pub room_of : Event → Room
-room_of e = record { events = 1; labels = label_count e; rows = row_count e }
+room_of e = record { events = 1; needs = need_count e; rows = row_count e }
 
 -- the room that is left after an event
 abbrev pub room_after : Event → Room → Room
-room_after e room = record { events = room.events - 1; labels = room.labels - label_count e; rows = room.rows - row_count e }
+room_after e room = record { events = room.events - 1; needs = room.needs - need_count e; rows = room.rows - row_count e }
 
--- there is at least so much room
+-- the first room is there, where the second is
 abbrev pub IsWithin : Room → Room → Type 0
-IsWithin asked room = (asked.events ≤ room.events) × (asked.labels ≤ room.labels) × (asked.rows ≤ room.rows)
+IsWithin asked room = (asked.events ≤ room.events) × (asked.needs ≤ room.needs) × (asked.rows ≤ room.rows)
 
 -- there is room for an event
 abbrev pub HasRoomFor : Event → Room → Type 0
 HasRoomFor e room = IsWithin (room_of e) room
 
--- room for so many events of any kind: a task has at most 16 needs, its unit and its due, and a receipt 16 rows
-abbrev pub room_of_any : ℕ → Room
-room_of_any n = record { events = n; labels = 18 * n; rows = 16 * n }
+-- the smallest room that both are in
+abbrev pub joined_room : Room → Room → Room
+joined_room a b = record { events = max a.events b.events; needs = max a.needs b.needs; rows = max a.rows b.rows }
 
--- a task has at most 16 needs, and a receipt at most 16 rows
+abbrev pub no_room : Room
+no_room = record { events = 0; needs = 0; rows = 0 }
+
+-- room for so many events of any kind: a task has at most 16 needs, and a receipt at most 16 rows
+abbrev pub room_of_any : ℕ → Room
+room_of_any n = record { events = n; needs = 16 * n; rows = 16 * n }
+
 abbrev pub IsShort : Event → Type 0
 IsShort (Submitted n t) = length t.needs ≤ max_needs
 IsShort (Receives r) = length r.rows ≤ max_ranks

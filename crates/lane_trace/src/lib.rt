@@ -1,7 +1,7 @@
 //! The trace that a lane keeps of its events.
 //!
-//! An event of `event_lists` is plain data of 416 bytes. A [`LaneTrace`] stores 32 bytes for each event; the labels of
-//! messages and tasks, and the rows of receipts, are in lists of their own. Room for events is made before they happen,
+//! An event of `event_lists` is plain data of 416 bytes. A [`LaneTrace`] stores 40 bytes for each event; the units
+//! of messages and tasks, the needs of tasks and the rows of receipts are in lists beside it. Room for events is made before they happen,
 //! and adding one takes no memory.
 #![tactic(auto)]
 
@@ -12,7 +12,7 @@ mod stored_event;
 mod tests;
 mod trace;
 
-pub use examples::{labels_are_counted, room_is_judged, rows_are_counted};
+pub use examples::{needs_and_rows_are_counted, room_is_judged};
 pub use room::{Room, any_event_fits};
 /// No memory is left for what a call has to make.
 pub use std::alloc::AllocError as OutOfMemory;

@@ -1,29 +1,34 @@
-//! Events as they are stored: labels of messages and tasks, and rows of receipts, are in lists beside them.
-ghost use Rattle.std.specs.Prelude.{◌≡◌, ◌≤◌, ◌+◌, ◌++◌, length, vec_len, vec_capacity};
+//! Events as they are stored: units, needs and rows are in lists beside them.
+ghost use Rattle.std.specs.Prelude.{◌≡◌, ◌≤◌, ◌<◌, ◌+◌, ◌++◌, length, vec_len, vec_capacity};
 ghost use Rattle.app_core.specs.Needs.{AreDistinct, max_needs};
 ghost use Rattle.event_lists.specs.Rows.{max_ranks};
-ghost use Rattle.lane_trace.specs.Traces.{due_count};
-ghost use Rattle.lane_trace.specs.StoredEvents.{stored_event, IsStored, due_labels, has_label, one_if, due_at, needs_at, task_at, rows_at};
+ghost use Rattle.lane_trace.specs.StoredEvents.{stored_event, IsStored, needs_at, rows_at, task_of};
 
 use app_core::{CellName, Label, Needs};
 use event_lists::{Event, Parcel, Receipt, Row, Rows, TaskName};
 
-/// An event without the labels of its message or task, and without its rows.
+/// The unit of a message or of a task, with its due.
+#[derive(Clone, Copy)]
+pub(crate) struct UnitName {
+    pub(crate) unit: Label,
+    pub(crate) due: Option<Label>,
+}
+
+/// An event without the unit of its message or task, the needs of its task, and the rows of its receipt.
 ///
-/// `labels` is the index of its first label in the list of labels: the unit or the future that is given. The needs of a
-/// task come after it, then the due, if there is one. `rows` is the index of the first row of a receipt.
+/// `unit`, `needs` and `rows` are indexes in the lists beside it: of the unit, of the first need, of the first row.
+/// `count` is how many needs or rows there are. Fields are laid out in their order: these are small in it.
 #[derive(Clone, Copy)]
 pub(crate) enum StoredEvent {
     SentUnit {
         number: u64,
+        unit: usize,
         to: u32,
-        labels: usize,
-        has_due: bool,
     },
     SentGive {
         number: u64,
+        future: Label,
         to: u32,
-        labels: usize,
     },
     TookMessage {
         rank: u32,
@@ -40,9 +45,9 @@ pub(crate) enum StoredEvent {
     },
     Submitted {
         number: u64,
-        labels: usize,
-        needs: u8,
-        has_due: bool,
+        unit: usize,
+        needs: usize,
+        count: u8,
     },
     Ran {
         number: u64,
@@ -75,32 +80,14 @@ pub(crate) enum StoredEvent {
     Enter(u32),
     Leave(u32),
     Receipt {
-        fence: u32,
         pass: u64,
         rows: usize,
+        fence: u32,
         count: u8,
     },
 }
 
-// Adds the due, if there is one, and returns whether there is.
-#[inline(always)]
-pub(crate) fn add_due(all: &mut Vec<Label>, due: Option<Label>) -> bool
-    requires { vec_len all.old + due_count due ≤ vec_capacity all.old }
-    ensures items { all.new.items ≡ all.old.items ++ due_labels due }
-    ensures len { vec_len all.new ≡ vec_len all.old + due_count due }
-    ensures capacity { vec_capacity all.new ≡ vec_capacity all.old }
-    ensures there { result ≡ has_label due }
-{
-    match due {
-        None => false,
-        Some(due) => {
-            all.push_reserved(due);
-            true
-        }
-    }
-}
-
-// Adds the needs, in order.
+/// Adds the needs, in order.
 #[inline(always)]
 pub(crate) fn add_needs(all: &mut Vec<Label>, needs: &[Label])
     requires { vec_len all.old + length needs.now ≤ vec_capacity all.old }
@@ -113,7 +100,7 @@ pub(crate) fn add_needs(all: &mut Vec<Label>, needs: &[Label])
     }
 }
 
-// Adds the rows, in order.
+/// Adds the rows, in order.
 #[inline(always)]
 pub(crate) fn add_rows(all: &mut Vec<Row>, rows: &[Row])
     requires { vec_len all.old + length rows.now ≤ vec_capacity all.old }
@@ -126,41 +113,29 @@ pub(crate) fn add_rows(all: &mut Vec<Row>, rows: &[Row])
     }
 }
 
-// The due at an index, where there is one.
-fn due_of(labels: &[Label], index: usize, has_due: bool) -> Option<Label>
-    requires { index + one_if has_due ≤ length labels.now }
-    ensures { result ≡ due_at labels.now index has_due }
-{
-    if has_due { Some(labels[index]) } else { None }
-}
-
-/// The event that is stored beside these labels and rows.
-pub(crate) fn event_of(stored: &StoredEvent, labels: &[Label], rows: &[Row]) -> Event
-    requires { IsStored labels.now rows.now stored.now }
-    ensures { result ≡ stored_event labels.now rows.now stored.now }
+/// The event that is stored beside these units, needs and rows.
+pub(crate) fn event_of(
+    stored: &StoredEvent,
+    units: &[UnitName],
+    needs: &[Label],
+    rows: &[Row],
+) -> Event
+    requires { IsStored (record { units = units.now; needs = needs.now; rows = rows.now }) stored.now }
+    ensures { result ≡ stored_event (record { units = units.now; needs = needs.now; rows = rows.now }) stored.now }
 {
     match *stored {
-        StoredEvent::SentUnit {
-            number,
-            to,
-            labels: first,
-            has_due,
-        } => Event::Sent {
+        StoredEvent::SentUnit { number, unit, to } => Event::Sent {
             number,
             to,
             parcel: Parcel::Unit {
-                unit: labels[first],
-                due: due_of(labels, first + 1, has_due),
+                unit: units[unit].unit,
+                due: units[unit].due,
             },
         },
-        StoredEvent::SentGive {
+        StoredEvent::SentGive { number, future, to } => Event::Sent {
             number,
             to,
-            labels: first,
-        } => Event::Sent {
-            number,
-            to,
-            parcel: Parcel::Give(labels[first]),
+            parcel: Parcel::Give(future),
         },
         StoredEvent::TookMessage { rank, number } => Event::TookMessage { rank, number },
         StoredEvent::TookTask { rank, number } => Event::TookTask { rank, number },
@@ -175,12 +150,12 @@ pub(crate) fn event_of(stored: &StoredEvent, labels: &[Label], rows: &[Row]) -> 
         },
         StoredEvent::Submitted {
             number,
-            labels: first,
-            needs,
-            has_due,
+            unit,
+            needs: first,
+            count,
         } => Event::Submitted {
             number,
-            task: task_of(labels, first, needs, has_due),
+            task: task_from(&units[unit], needs, first, count),
         },
         StoredEvent::Ran { number, rank, task } => Event::Ran { number, rank, task },
         StoredEvent::Gave(future) => Event::Gave(future),
@@ -201,39 +176,38 @@ pub(crate) fn event_of(stored: &StoredEvent, labels: &[Label], rows: &[Row]) -> 
         StoredEvent::Enter(fence) => Event::Enter(fence),
         StoredEvent::Leave(fence) => Event::Leave(fence),
         StoredEvent::Receipt {
-            fence,
             pass,
             rows: first,
+            fence,
             count,
         } => Event::Receipt(Receipt {
             fence,
             pass,
-            rows: rows_of(rows, first, count),
+            rows: rows_from(rows, first, count),
         }),
     }
 }
 
-// The name of a task whose labels begin at an index.
-fn task_of(labels: &[Label], first: usize, needs: u8, has_due: bool) -> TaskName
-    requires within { first + 1 + needs + one_if has_due ≤ length labels.now }
-    requires few { needs ≤ max_needs }
-    requires distinct { AreDistinct (needs_at labels.now (first + 1) needs) }
-    ensures { result ≡ task_at labels.now first needs has_due }
+// The task of a unit, with so many needs from an index on.
+fn task_from(unit: &UnitName, needs: &[Label], first: usize, count: u8) -> TaskName
+    requires within { first + count ≤ length needs.now }
+    requires few { count ≤ max_needs }
+    requires distinct { AreDistinct (needs_at needs.now first count) }
+    ensures { result ≡ task_of unit.now (needs_at needs.now first count) }
 {
-    let count = usize::from(needs);
-    let rest = &labels[first + 1..];
-    let Some(needs) = Needs::of(&rest[..count]) else {
+    let rest = &needs[first..];
+    let Some(needs) = Needs::of(&rest[..usize::from(count)]) else {
         unreachable!();
     };
     TaskName {
-        unit: labels[first],
+        unit: unit.unit,
         needs,
-        due: due_of(labels, first + 1 + count, has_due),
+        due: unit.due,
     }
 }
 
 // So many rows, from an index on.
-fn rows_of(rows: &[Row], first: usize, count: u8) -> Rows
+fn rows_from(rows: &[Row], first: usize, count: u8) -> Rows
     requires within { first + count ≤ length rows.now }
     requires few { count ≤ max_ranks }
     ensures { result ≡ rows_at rows.now first count }

@@ -152,7 +152,7 @@ fn each_kind_of_event_comes_back(rt: HostRuntime) -> Result<(), Fail> {
 }
 
 #[test]
-fn messages_and_tasks_keep_their_own_labels(rt: HostRuntime) -> Result<(), Fail> {
+fn messages_and_tasks_keep_their_own_units(rt: HostRuntime) -> Result<(), Fail> {
     let mut trace = LaneTrace::new(rt.alloc());
     trace.reserve(&Room::of_any(4))?;
     trace.sent(1, 2, &unit(Some(label(9))));
@@ -265,13 +265,13 @@ fn room_is_asked_for(rt: HostRuntime) -> Result<(), Fail> {
     let mut trace = LaneTrace::new(rt.alloc());
     let none = Room {
         events: 0,
-        labels: 0,
+        needs: 0,
         rows: 0,
     };
     assert_eq!(rt; trace.room(), none);
     trace.reserve(&Room::of_any(2))?;
     let room = trace.room();
-    assert!(rt; room.events >= 2 && room.labels >= 36 && room.rows >= 32);
+    assert!(rt; room.events >= 2 && room.needs >= 32 && room.rows >= 32);
     trace.enter(1);
     assert_eq!(rt; trace.room().events + 1, room.events);
     Ok(())

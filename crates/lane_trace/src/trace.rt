@@ -4,12 +4,11 @@ ghost use Rattle.app_core.specs.Needs.{AreDistinct, max_needs};
 ghost use Rattle.event_lists.specs.declared.event.Event.TheVariants as event;
 ghost use Rattle.event_lists.specs.declared.event.Parcel.TheVariants as parcel;
 ghost use Rattle.event_lists.specs.OwnEvents.{reading_event};
-ghost use Rattle.lane_trace.specs.declared.room.Room.{Room};
-ghost use Rattle.lane_trace.specs.Traces.{HasRoomFor, room_after, IsWithin};
+ghost use Rattle.lane_trace.specs.Traces.{HasRoomFor, room_after, IsWithin, joined_room, no_room};
 
 use crate::OutOfMemory;
 use crate::room::Room;
-use crate::stored_event::{StoredEvent, add_due, add_needs, add_rows, event_of};
+use crate::stored_event::{StoredEvent, UnitName, add_needs, add_rows, event_of};
 use app_core::{CellName, Label};
 use event_lists::{Event, Kind, Parcel, Receipt, Row, TaskName};
 use std::alloc::Global;
@@ -19,60 +18,70 @@ use std::marker::Model;
 #[derive(Drop)]
 pub struct LaneTrace {
     entries: Vec<StoredEvent>,
-    labels: Vec<Label>,
+    units: Vec<UnitName>,
+    needs: Vec<Label>,
     rows: Vec<Row>,
+    room: Room,
 }
 
 impl Model for LaneTrace {
-    ghost use Rattle.std.specs.Prelude.{◌-◌, map, reverse, vec_len, vec_capacity};
-    ghost use Rattle.std.specs.List.{AllByRecursion};
+    ghost use Rattle.std.specs.Prelude.{◌+◌, ◌≤◌, vec_len, vec_capacity};
     ghost use Rattle.lane_trace.specs.Traces.{TraceData};
-    ghost use Rattle.lane_trace.specs.StoredEvents.{stored_event, IsStored};
+    ghost use Rattle.lane_trace.specs.StoredEvents.{stored_events, AreStored};
 
     ghost Value = { TraceData };
 
     ghost view = { λ t. record {
-      events = reverse (map (stored_event t.labels.items t.rows.items) t.entries.items);
-      room = record {
-        events = vec_capacity t.entries - vec_len t.entries;
-        labels = vec_capacity t.labels - vec_len t.labels;
-        rows = vec_capacity t.rows - vec_len t.rows;
-      };
+      events = stored_events (record { units = t.units.items; needs = t.needs.items; rows = t.rows.items }) t.entries.items;
+      room = t.room;
     } };
 
-    ghost invariant = { λ t. AllByRecursion (IsStored t.labels.items t.rows.items) t.entries.items };
+    ghost invariant = { λ t. record {
+      stored : AreStored (record { units = t.units.items; needs = t.needs.items; rows = t.rows.items }) t.entries.items;
+      entries : vec_len t.entries + t.room.events ≤ vec_capacity t.entries;
+      units : vec_len t.units + t.room.events ≤ vec_capacity t.units;
+      needs : vec_len t.needs + t.room.needs ≤ vec_capacity t.needs;
+      rows : vec_len t.rows + t.room.rows ≤ vec_capacity t.rows;
+    } };
 }
 
 impl LaneTrace {
     /// No events, and room for none. It takes no memory yet; `alloc` is where it will come from.
     pub fn new(alloc: Global) -> LaneTrace
         ensures events { result.events ≡ [] }
-        ensures room { result.room ≡ record { events = 0; labels = 0; rows = 0 } }
+        ensures room { result.room ≡ no_room }
     {
         LaneTrace {
             entries: Vec::new(alloc),
-            labels: Vec::new(alloc),
+            units: Vec::new(alloc),
+            needs: Vec::new(alloc),
             rows: Vec::new(alloc),
+            room: Room {
+                events: 0,
+                needs: 0,
+                rows: 0,
+            },
         }
     }
 
-    /// Makes room for at least so much more than what is there. The events stay, and no room gets lost.
-    /// `OutOfMemory` is returned only where there isn't that much room yet.
+    /// Makes room for so much more than what is there. The events stay, and no room gets lost. `OutOfMemory` is returned
+    /// only where the room isn't there yet; then nothing changes.
     pub fn reserve(&mut self, room: &Room) -> Result<(), OutOfMemory>
         ensures events { self.new.events ≡ self.old.events }
+        ensures made { OnOk result (self.new.room ≡ joined_room self.old.room room.now) }
         ensures room { OnOk result (IsWithin room.now self.new.room) }
-        ensures no_less { IsWithin self.old.room self.new.room }
+        ensures refused { OnErr result (self.new ≡ self.old) }
         ensures there { IsWithin room.now self.old.room → IsOk result }
     {
-        if self.entries.reserve(room.events).is_err() {
-            return Err(OutOfMemory);
-        }
-        if self.labels.reserve(room.labels).is_err() {
-            return Err(OutOfMemory);
-        }
-        if self.rows.reserve(room.rows).is_err() {
-            return Err(OutOfMemory);
-        }
+        self.entries.reserve(room.events)?;
+        self.units.reserve(room.events)?;
+        self.needs.reserve(room.needs)?;
+        self.rows.reserve(room.rows)?;
+        self.room = Room {
+            events: self.room.events.max(room.events),
+            needs: self.room.needs.max(room.needs),
+            rows: self.room.rows.max(room.rows),
+        };
         Ok(())
     }
 
@@ -94,11 +103,7 @@ impl LaneTrace {
     pub fn room(&self) -> Room
         ensures { result ≡ self.now.room }
     {
-        Room {
-            events: self.entries.capacity() - self.entries.len(),
-            labels: self.labels.capacity() - self.labels.len(),
-            rows: self.rows.capacity() - self.rows.len(),
-        }
+        self.room
     }
 
     /// Message `number` of this rank, to rank `to`.
@@ -121,15 +126,13 @@ impl LaneTrace {
         ensures events { self.new.events ≡ event.Sent number to (parcel.Unit unit due) ∷ self.old.events }
         ensures room { self.new.room ≡ room_after (event.Sent number to (parcel.Unit unit due)) self.old.room }
     {
-        let labels = self.labels.len();
-        self.labels.push_reserved(unit);
-        let has_due = add_due(&mut self.labels, due);
         self.entries.push_reserved(StoredEvent::SentUnit {
             number,
+            unit: self.units.len(),
             to,
-            labels,
-            has_due,
         });
+        self.units.push_reserved(UnitName { unit, due });
+        self.room.events -= 1;
     }
 
     // Message `number` of this rank, to rank `to`, with a value for a future.
@@ -139,10 +142,9 @@ impl LaneTrace {
         ensures events { self.new.events ≡ event.Sent number to (parcel.Give future) ∷ self.old.events }
         ensures room { self.new.room ≡ room_after (event.Sent number to (parcel.Give future)) self.old.room }
     {
-        let labels = self.labels.len();
-        self.labels.push_reserved(future);
         self.entries
-            .push_reserved(StoredEvent::SentGive { number, to, labels });
+            .push_reserved(StoredEvent::SentGive { number, future, to });
+        self.room.events -= 1;
     }
 
     /// Message `number` of rank `rank` is in this lane's hand.
@@ -154,6 +156,7 @@ impl LaneTrace {
     {
         self.entries
             .push_reserved(StoredEvent::TookMessage { rank, number });
+        self.room.events -= 1;
     }
 
     /// Task `number` of rank `rank` is in this lane's hand.
@@ -165,6 +168,7 @@ impl LaneTrace {
     {
         self.entries
             .push_reserved(StoredEvent::TookTask { rank, number });
+        self.room.events -= 1;
     }
 
     /// Handling `number` of this rank: message `message` of rank `rank`.
@@ -179,6 +183,7 @@ impl LaneTrace {
             rank,
             message,
         });
+        self.room.events -= 1;
     }
 
     /// Submission `number` of this rank: a task of this unit, with these needs and this due.
@@ -190,16 +195,16 @@ impl LaneTrace {
         ensures events { self.new.events ≡ event.Submitted number (record { unit = unit; needs = needs.now; due = due }) ∷ self.old.events }
         ensures room { self.new.room ≡ room_after (event.Submitted number (record { unit = unit; needs = needs.now; due = due })) self.old.room }
     {
-        let labels = self.labels.len();
-        self.labels.push_reserved(unit);
-        add_needs(&mut self.labels, needs);
-        let has_due = add_due(&mut self.labels, due);
         self.entries.push_reserved(StoredEvent::Submitted {
             number,
-            labels,
-            needs: needs.len() as u8,
-            has_due,
+            unit: self.units.len(),
+            needs: self.needs.len(),
+            count: needs.len() as u8,
         });
+        self.units.push_reserved(UnitName { unit, due });
+        add_needs(&mut self.needs, needs);
+        self.room.events -= 1;
+        self.room.needs -= needs.len();
     }
 
     /// Run `number` of this rank: task `task` of rank `rank`.
@@ -211,6 +216,7 @@ impl LaneTrace {
     {
         self.entries
             .push_reserved(StoredEvent::Ran { number, rank, task });
+        self.room.events -= 1;
     }
 
     /// The future of this label has its value.
@@ -221,6 +227,7 @@ impl LaneTrace {
         ensures room { self.new.room ≡ room_after (event.Gave future) self.old.room }
     {
         self.entries.push_reserved(StoredEvent::Gave(future));
+        self.room.events -= 1;
     }
 
     /// The entry of this name was put, on a bin's lane.
@@ -231,6 +238,7 @@ impl LaneTrace {
         ensures room { self.new.room ≡ room_after (event.Put name) self.old.room }
     {
         self.entries.push_reserved(StoredEvent::Put(name));
+        self.room.events -= 1;
     }
 
     /// The entry of this name was taken out, on a bin's lane.
@@ -241,6 +249,7 @@ impl LaneTrace {
         ensures room { self.new.room ≡ room_after (event.Erased name) self.old.room }
     {
         self.entries.push_reserved(StoredEvent::Erased(name));
+        self.room.events -= 1;
     }
 
     /// The count of this kind of this rank was read, for pass `pass` of fence `fence`: it was `value`.
@@ -257,6 +266,7 @@ impl LaneTrace {
             Kind::Runs => StoredEvent::ReadRan { value, fence, pass },
         };
         self.entries.push_reserved(stored);
+        self.room.events -= 1;
     }
 
     /// This rank's main entered the fence of this number.
@@ -267,6 +277,7 @@ impl LaneTrace {
         ensures room { self.new.room ≡ room_after (event.Enter fence) self.old.room }
     {
         self.entries.push_reserved(StoredEvent::Enter(fence));
+        self.room.events -= 1;
     }
 
     /// This rank's main left the fence of this number.
@@ -277,6 +288,7 @@ impl LaneTrace {
         ensures room { self.new.room ≡ room_after (event.Leave fence) self.old.room }
     {
         self.entries.push_reserved(StoredEvent::Leave(fence));
+        self.room.events -= 1;
     }
 
     /// The receipt of a fence.
@@ -286,15 +298,16 @@ impl LaneTrace {
         ensures events { self.new.events ≡ event.Receipt receipt.now ∷ self.old.events }
         ensures room { self.new.room ≡ room_after (event.Receipt receipt.now) self.old.room }
     {
-        let rows = self.rows.len();
         let count = receipt.rows.len();
-        add_rows(&mut self.rows, receipt.rows.rows());
         self.entries.push_reserved(StoredEvent::Receipt {
-            fence: receipt.fence,
             pass: receipt.pass,
-            rows,
+            rows: self.rows.len(),
+            fence: receipt.fence,
             count: count as u8,
         });
+        add_rows(&mut self.rows, receipt.rows.rows());
+        self.room.events -= 1;
+        self.room.rows -= count;
     }
 
     /// An event of any kind.
@@ -352,7 +365,7 @@ impl LaneTrace {
         requires { index < length self.now.events }
         ensures { slice_get (reverse self.now.events) index ≡ Some result }
     {
-        event_of(&self.entries[index], &self.labels, &self.rows)
+        event_of(&self.entries[index], &self.units, &self.needs, &self.rows)
     }
 
     /// All events, the oldest first.
@@ -361,7 +374,7 @@ impl LaneTrace {
     {
         let mut events = Vec::with_capacity(alloc, self.entries.len())?;
         for stored in &self.entries {
-            events.push_reserved(event_of(stored, &self.labels, &self.rows));
+            events.push_reserved(event_of(stored, &self.units, &self.needs, &self.rows));
         }
         Ok(events)
     }

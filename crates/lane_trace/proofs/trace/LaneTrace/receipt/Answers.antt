@@ -1,19 +1,14 @@
-use Rattle.std.proofs.Common.{rules, ap, sym, ◌≡◌, [], ◌∷◌, ◌++◌, length}
+use Rattle.std.proofs.Common.{rules, arith, ap, ◌∙◌, ◌∷◌, length}
 use Rattle.event_lists.specs.declared.event.Event.TheVariants as full
-use Rattle.lane_trace.specs.declared.stored_event.StoredEvent.TheVariants.{Receipt}
-use Rattle.lane_trace.proofs.StoredEventLemmas.{rows_added, event_added, rows_last}
+use Rattle.lane_trace.proofs.StoredEventLemmas.{receipt_added}
 use Rattle.lane_trace.proofs.trace.LaneTrace.receipt.Goals as goal
+
+pub invariant_of-self : goal.invariant_of-self
+invariant_of-self c =
+    let after = receipt_added c.self.inside.units.items c.self.inside.needs.items c.self.inside.rows.items c.self.inside.entries.items c.args.receipt.now c.self.invariant.stored (search rules) c.add_rows.new.all.items c.push_reserved.new.self.items c.len.result c.len-count.result (cc) (cc) (search rules) (search rules) in
+    record { stored = after.stored; entries = omega arith; units = omega arith; needs = omega arith; rows = omega (arith, ap length c.rows.ensures) }
 
 pub returns-clause-events : goal.returns-clause-events
 returns-clause-events c =
-    let ls = c.self.inside.labels.items in
-    let rows = c.self.inside.rows.items in
-    let es = c.self.inside.entries.items in
-    let r = c.args.receipt.now in
-    let first : c.len-rows.result ≡ length rows = search rules in
-    let grown : c.add_rows.new.all.items ≡ rows ++ r.rows = cc in
-    let pushed : c.push_reserved.new.self.items ≡ es ++ Receipt r.fence r.pass (length rows) (length r.rows) ∷ [] = cc in
-    let same = rows_added ls rows r.rows es c.self.invariant in
-    let last = ap (λ rs. full.Receipt (record { fence = r.fence; pass = r.pass; rows = rs })) (rows_last rows r.rows) in
-    let added = event_added ls rows ls (rows ++ r.rows) es (Receipt r.fence r.pass (length rows) (length r.rows)) (full.Receipt r) same last in
-    rw (pushed, grown) (rw (sym (ap (λ v. v.events) c.self.view_is)) added)
+    let after = receipt_added c.self.inside.units.items c.self.inside.needs.items c.self.inside.rows.items c.self.inside.entries.items c.args.receipt.now c.self.invariant.stored (search rules) c.add_rows.new.all.items c.push_reserved.new.self.items c.len.result c.len-count.result (cc) (cc) (search rules) (search rules) in
+    after.events ∙ ap (λ v. full.Receipt c.args.receipt.now ∷ v.events) c.self.view_is

@@ -1,24 +1,15 @@
-use Rattle.std.proofs.Common.{rules, ap, sym, ◌≡◌, [], ◌∷◌, ◌++◌, length}
-use Rattle.lane_trace.specs.declared.stored_event.StoredEvent.TheVariants.{SentUnit}
-use Rattle.lane_trace.specs.StoredEvents.{due_labels, has_label}
+use Rattle.std.proofs.Common.{rules, arith, ap, ◌∙◌, ◌∷◌}
+use Rattle.event_lists.specs.declared.event.Event.TheVariants as full
+use Rattle.event_lists.specs.declared.event.Parcel.TheVariants as parcel
 use Rattle.lane_trace.proofs.StoredEventLemmas.{unit_added}
 use Rattle.lane_trace.proofs.trace.LaneTrace.sent_unit.Goals as goal
 
 pub invariant_of-self : goal.invariant_of-self
 invariant_of-self c =
-    let ls = c.self.inside.labels.items in
-    let es = c.self.inside.entries.items in
-    let first : c.len-labels.result ≡ length ls = search rules in
-    let grown : c.add_due-has_due.new.all.items ≡ (ls ++ c.args.unit ∷ []) ++ due_labels c.args.due = cc in
-    let pushed : c.push_reserved-2.new.self.items ≡ es ++ SentUnit c.args.number c.args.to (length ls) (has_label c.args.due) ∷ [] = cc in
-    rw (pushed, grown) (unit_added ls c.self.inside.rows.items es c.args.number c.args.to c.args.unit c.args.due c.self.invariant).stored
+    let after = unit_added c.self.inside.units.items c.self.inside.needs.items c.self.inside.rows.items c.self.inside.entries.items c.args.number c.args.to (record { unit = c.args.unit; due = c.args.due }) c.self.invariant.stored c.push_reserved-2.new.self.items c.push_reserved.new.self.items c.len.result c.push_reserved-2.ensures.items c.push_reserved.ensures.items (search rules) in
+    record { stored = after.stored; entries = omega arith; units = omega arith; needs = omega arith; rows = omega arith }
 
 pub returns-clause-events : goal.returns-clause-events
 returns-clause-events c =
-    let ls = c.self.inside.labels.items in
-    let es = c.self.inside.entries.items in
-    let first : c.len-labels.result ≡ length ls = search rules in
-    let grown : c.add_due-has_due.new.all.items ≡ (ls ++ c.args.unit ∷ []) ++ due_labels c.args.due = cc in
-    let pushed : c.push_reserved-2.new.self.items ≡ es ++ SentUnit c.args.number c.args.to (length ls) (has_label c.args.due) ∷ [] = cc in
-    let added = unit_added ls c.self.inside.rows.items es c.args.number c.args.to c.args.unit c.args.due c.self.invariant in
-    rw (pushed, grown) (rw (sym (ap (λ v. v.events) c.self.view_is)) added.events)
+    let after = unit_added c.self.inside.units.items c.self.inside.needs.items c.self.inside.rows.items c.self.inside.entries.items c.args.number c.args.to (record { unit = c.args.unit; due = c.args.due }) c.self.invariant.stored c.push_reserved-2.new.self.items c.push_reserved.new.self.items c.len.result c.push_reserved-2.ensures.items c.push_reserved.ensures.items (search rules) in
+    after.events ∙ ap (λ v. full.Sent c.args.number c.args.to (parcel.Unit c.args.unit c.args.due) ∷ v.events) c.self.view_is

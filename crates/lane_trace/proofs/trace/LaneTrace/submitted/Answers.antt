@@ -1,26 +1,14 @@
-use Rattle.std.proofs.Common.{rules, ap, sym, ◌≡◌, [], ◌∷◌, ◌++◌, length}
-use Rattle.lane_trace.specs.declared.stored_event.StoredEvent.TheVariants.{Submitted}
-use Rattle.lane_trace.specs.StoredEvents.{due_labels, has_label}
+use Rattle.std.proofs.Common.{rules, arith, ap, ◌∙◌, ◌∷◌}
+use Rattle.event_lists.specs.declared.event.Event.TheVariants as full
 use Rattle.lane_trace.proofs.StoredEventLemmas.{task_added}
 use Rattle.lane_trace.proofs.trace.LaneTrace.submitted.Goals as goal
 
 pub invariant_of-self : goal.invariant_of-self
 invariant_of-self c =
-    let ls = c.self.inside.labels.items in
-    let es = c.self.inside.entries.items in
-    let ns = c.args.needs.now in
-    let first : c.len-labels.result ≡ length ls = search rules in
-    let grown : c.add_due-has_due.new.all.items ≡ ((ls ++ c.args.unit ∷ []) ++ ns) ++ due_labels c.args.due = cc in
-    let pushed : c.push_reserved-2.new.self.items ≡ es ++ Submitted c.args.number (length ls) (length ns) (has_label c.args.due) ∷ [] = cc in
-    rw (pushed, grown) (task_added ls c.self.inside.rows.items es c.args.number c.args.unit ns c.args.due c.self.invariant c.requires.few c.requires.distinct).stored
+    let after = task_added c.self.inside.units.items c.self.inside.needs.items c.self.inside.rows.items c.self.inside.entries.items c.args.number (record { unit = c.args.unit; due = c.args.due }) c.args.needs.now c.self.invariant.stored c.requires.few c.requires.distinct c.push_reserved-2.new.self.items c.add_needs.new.all.items c.push_reserved.new.self.items c.len.result c.len-2.result c.push_reserved-2.ensures.items c.add_needs.ensures.items c.push_reserved.ensures.items (search rules) (search rules) in
+    record { stored = after.stored; entries = omega arith; units = omega arith; needs = omega arith; rows = omega arith }
 
 pub returns-clause-events : goal.returns-clause-events
 returns-clause-events c =
-    let ls = c.self.inside.labels.items in
-    let es = c.self.inside.entries.items in
-    let ns = c.args.needs.now in
-    let first : c.len-labels.result ≡ length ls = search rules in
-    let grown : c.add_due-has_due.new.all.items ≡ ((ls ++ c.args.unit ∷ []) ++ ns) ++ due_labels c.args.due = cc in
-    let pushed : c.push_reserved-2.new.self.items ≡ es ++ Submitted c.args.number (length ls) (length ns) (has_label c.args.due) ∷ [] = cc in
-    let added = task_added ls c.self.inside.rows.items es c.args.number c.args.unit ns c.args.due c.self.invariant c.requires.few c.requires.distinct in
-    rw (pushed, grown) (rw (sym (ap (λ v. v.events) c.self.view_is)) added.events)
+    let after = task_added c.self.inside.units.items c.self.inside.needs.items c.self.inside.rows.items c.self.inside.entries.items c.args.number (record { unit = c.args.unit; due = c.args.due }) c.args.needs.now c.self.invariant.stored c.requires.few c.requires.distinct c.push_reserved-2.new.self.items c.add_needs.new.all.items c.push_reserved.new.self.items c.len.result c.len-2.result c.push_reserved-2.ensures.items c.add_needs.ensures.items c.push_reserved.ensures.items (search rules) (search rules) in
+    after.events ∙ ap (λ v. full.Submitted c.args.number (record { unit = c.args.unit; needs = c.args.needs.now; due = c.args.due }) ∷ v.events) c.self.view_is
