@@ -13,7 +13,7 @@ pub record MemSourceState : Type 0 where
   pub calls : ℕ
   pub faults : ℕ
 
--- a sink whose calls fail as planned, and where it finds no memory
+-- a sink whose calls fail as planned, and when memory is refused
 pub record MemSinkState : Type 0 where
   -- the bytes that it took
   pub taken : List ℕ
@@ -24,7 +24,7 @@ pub record MemSinkState : Type 0 where
   -- the number of the next call
   pub calls : ℕ
   pub faults : ℕ
-  -- those of the faults that were want of memory
+  -- those of the faults at which memory was refused
   pub starved : ℕ
 
 -- a sink that never fails

@@ -1,8 +1,8 @@
 //! Where a program reads from and writes to: a [`Source`] and a [`Sink`] of bytes, each with a
 //! count of its faults, and [`read_all`] and [`write_all`] over them.
 //!
-//! - [`MemSource`] and [`MemSink`] stand in memory, move few bytes a call, and fail as planned.
-//! - [`SureSource`] and [`SureSink`] stand in memory and never fail.
+//! - [`MemSource`] and [`MemSink`] are in memory, move few bytes a call, and fail as planned.
+//! - [`SureSource`] and [`SureSink`] are in memory and never fail.
 //! - [`StdSource`] and [`StdSink`] adapt a reader and a writer of std.
 #![tactic(auto)]
 

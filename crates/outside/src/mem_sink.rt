@@ -10,7 +10,7 @@ use std::alloc::Global;
 use std::marker::Model;
 
 /// A sink in memory that takes few bytes a call, whose calls of given numbers fail, and which fails
-/// too where it finds no memory. It fits every piece.
+/// too when memory is refused. It fits every piece.
 #[derive(Drop)]
 pub struct MemSink {
     bytes: Vec<u8>,
@@ -34,7 +34,7 @@ impl Model for MemSink {
 
 impl MemSink {
     /// An empty sink that takes at most `piece` bytes a call. Call number k, from 0, fails where k
-    /// stands in `failing`, and else only where no memory was found; calls past 2^64 - 1 go by that
+    /// is in `failing`, and else only when memory is refused; calls past 2^64 - 1 go by that
     /// number.
     pub fn new(alloc: Global, piece: usize, failing: Vec<u64>) -> MemSink
         requires { 1 ≤ piece }
@@ -57,7 +57,7 @@ impl MemSink {
         self.bytes.as_slice()
     }
 
-    /// How many writes found no memory. With no call made to fail, these are all of its faults.
+    /// How many writes were refused memory. With no call made to fail, these are all of its faults.
     pub fn starved(&self) -> u64
         ensures value { result ≡ self.now.starved }
         ensures alone { self.now.failing ≡ [] → self.now.faults ≡ result }
@@ -87,7 +87,7 @@ impl Sink for MemSink {
         ensures planned { IsWriteToFail self.old → IsErr result }
         ensures err_taken { OnErr result (self.new.taken ≡ self.old.taken) }
 
-        // Every failure is counted, and those that were not planned as want of memory.
+        // Every failure is counted, and those that were not planned as refusals of memory.
         ensures ok_faults { OnOk result (self.new.faults ≡ self.old.faults) }
         ensures err_faults { OnErr result (self.new.faults ≡ next_count self.old.faults) }
         ensures ok_starved { OnOk result (self.new.starved ≡ self.old.starved) }

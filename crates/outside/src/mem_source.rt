@@ -32,7 +32,7 @@ impl Model for MemSource {
 
 impl MemSource {
     /// A source of `bytes` that gives at most `piece` of them a call. Call number k, from 0, fails
-    /// exactly where k stands in `failing`; calls past 2^64 - 1 go by that number.
+    /// exactly where k is in `failing`; calls past 2^64 - 1 go by that number.
     pub fn new(bytes: Vec<u8>, piece: usize, failing: Vec<u64>) -> MemSource
         requires { 1 ≤ piece }
         ensures { result ≡ record { left = bytes.items; piece = piece; failing = failing.items; calls = 0; faults = 0 } }

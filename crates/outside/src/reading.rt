@@ -16,7 +16,7 @@ pub enum ReadAllError {
     /// The source gave more bytes than the limit.
     #[error("the input is too long")]
     TooLong,
-    /// There was no memory for the bytes.
+    /// Memory was refused for the bytes.
     #[error("out of memory")]
     OutOfMemory,
 }
@@ -30,10 +30,10 @@ const PIECE: usize = 65536;
 ///
 /// # Errors
 ///
-/// - `ReadFault` only where the source's count of faults rose, or stood at 2^64 - 1, and the source gave at most `limit`
+/// - `ReadFault` only where the source's count of faults rose, or was at 2^64 - 1, and the source gave at most `limit`
 ///   bytes.
 /// - `TooLong` only where the source gave `limit + 1` bytes, and no other error but `OutOfMemory` comes then.
-/// - `OutOfMemory` where there was no memory for the bytes or the buffer.
+/// - `OutOfMemory` when memory is refused for the bytes or the buffer.
 pub fn read_all<S: Source>(
     alloc: Global,
     source: &mut S,

@@ -20,12 +20,12 @@ pub trait Sink {
     /// Whether a piece may be written.
     ghost fits: { Self → List ℕ → Type 0 };
 
-    /// Takes a front of `bytes`, which fit, and answers its length: at least 1 where there is a
+    /// Takes a prefix of `bytes`, which fit, and returns its length: at least 1 where there is a
     /// byte. The rest then fits.
     ///
     /// # Errors
     ///
-    /// `Failed` only where the count of faults rose, or stood at 2^64 - 1. Nothing was taken then.
+    /// `Failed` only where the count of faults rose, or was at 2^64 - 1. Nothing was taken then.
     fn write(&mut self, bytes: &[u8]) -> Result<usize, Failed>
         requires { fits self.old bytes.now }
         ensures bound { IfOk result (λ n. n ≤ length bytes.now) }

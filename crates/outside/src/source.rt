@@ -20,12 +20,12 @@ pub trait Source {
     /// How often it failed. It never falls; at 2^64 - 1 it stays.
     ghost faults: { Self → ℕ };
 
-    /// Reads the next bytes to the front of `buf`, at most as many as it has room for, and answers
+    /// Reads the next bytes to the start of `buf`, at most as many as it has room for, and returns
     /// their number. No byte for a `buf` with room is the end.
     ///
     /// # Errors
     ///
-    /// `Failed` only where the count of faults rose, or stood at 2^64 - 1. Nothing was read then.
+    /// `Failed` only where the count of faults rose, or was at 2^64 - 1. Nothing was read then.
     fn read(&mut self, buf: &mut [u8]) -> Result<usize, Failed>
         ensures bound { ReadsAtMost result buf.new }
         ensures bytes { ReadConsumes (left self.old) (left self.new) result buf.new }

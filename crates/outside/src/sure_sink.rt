@@ -33,7 +33,7 @@ impl SureSink {
     ///
     /// # Errors
     ///
-    /// `OutOfMemory` where there is no memory for `room` bytes. No later call takes memory.
+    /// `OutOfMemory` when memory is refused for `room` bytes. No later call takes memory.
     pub fn with_room(alloc: Global, room: usize) -> Result<SureSink, OutOfMemory>
         ensures { IfOk result (λ sink. sink ≡ record { taken = []; room = room }) }
     {

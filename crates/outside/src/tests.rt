@@ -79,7 +79,7 @@ fn write_sure(sink: &mut SureSink, bytes: &[u8]) -> Result<(), WriteFault>
     write_all(sink, bytes)
 }
 
-/// A write of everything, between the counts of writes that found no memory.
+/// A write of everything, between the counts of writes that were refused memory.
 #[derive(Drop)]
 struct Counted {
     before: u64,
@@ -87,7 +87,7 @@ struct Counted {
     after: u64,
 }
 
-/// With no call made to fail, a write fails only for want of memory.
+/// With no call made to fail, a write fails only when memory is refused.
 fn write_counted(sink: &mut MemSink, bytes: &[u8]) -> Counted
     requires { sink.old.failing ≡ [] }
     ensures { OnErr result.result (Rose result.before result.after) }

@@ -6,7 +6,7 @@ ghost use Rattle.outside.specs.Causes.{Rose};
 use crate::sink::Sink;
 use thiserror::Error;
 
-/// A write failed, so that a front of the bytes was written and no more.
+/// A write failed, so that a prefix of the bytes was written and no more.
 #[derive(Clone, Copy, Debug, PartialEq, Eq, Error)]
 #[error("a write failed")]
 pub struct WriteFault;
@@ -15,12 +15,12 @@ pub struct WriteFault;
 ///
 /// # Errors
 ///
-/// `WriteFault` only where the sink's count of faults rose, or stood at 2^64 - 1. The sink then
-/// took a front of the bytes.
+/// `WriteFault` only where the sink's count of faults rose, or was at 2^64 - 1. The sink then
+/// took a prefix of the bytes.
 pub fn write_all<K: Sink>(sink: &mut K, bytes: &[u8]) -> Result<(), WriteFault>
     requires { K.fits sink.old bytes.now }
     ensures all { OnOk result (Appends (K.taken sink.old) (K.taken sink.new) bytes.now) }
-    ensures front { (n : ℕ) × (n ≤ length bytes.now) × Appends (K.taken sink.old) (K.taken sink.new) (take n bytes.now) }
+    ensures prefix { (n : ℕ) × (n ≤ length bytes.now) × Appends (K.taken sink.old) (K.taken sink.new) (take n bytes.now) }
     ensures fault { OnErr result (Rose (K.faults sink.old) (K.faults sink.new)) }
     ensures later { K.faults sink.old ≤ K.faults sink.new }
     // A sink that fits every piece goes on to fit every piece.

@@ -8,7 +8,7 @@ use std::rt::Env;
 use std::{env, io};
 use world_cli::world_main;
 
-/// The status of want of memory, where it comes before there are words.
+/// The status of `OutOfMemory`, where it comes before there are words.
 const OUT_OF_MEMORY: u8 = 4;
 
 // The words after the program's name. Words that aren't text are in no listed form, and so are no words.

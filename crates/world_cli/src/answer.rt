@@ -28,7 +28,7 @@ pub struct Answer {
 pub enum Refusal {
     /// The source failed.
     ReadFault,
-    /// There was no memory.
+    /// Memory was refused.
     OutOfMemory,
 }
 
@@ -118,7 +118,7 @@ fn answer_fault(alloc: Global, fault: JobFault) -> Result<Answer, OutOfMemory>
 
 /// What `serial` answers to the bytes of a job: its text with status 0; the text before the first command that overflows
 /// and a line that names it with status 3; the line of the first fault with status 2, also for more than 1,048,576 bytes.
-/// `OutOfMemory` where there is no memory left.
+/// `OutOfMemory` when memory is refused.
 pub fn serial_text(alloc: Global, bytes: &[u8]) -> Result<Answer, OutOfMemory>
     ensures status { IfOk result (λ answer. code_of answer.status ≡ (serial_answer bytes.now).status) }
     ensures text { IfOk result (λ answer. answer.text ≡ (serial_answer bytes.now).text) }
@@ -134,7 +134,7 @@ pub fn serial_text(alloc: Global, bytes: &[u8]) -> Result<Answer, OutOfMemory>
 }
 
 /// What `check` answers to the bytes of a job: how many commands and trees it has with status 0; the line of the first fault
-/// with status 2, also for more than 1,048,576 bytes. `OutOfMemory` where there is no memory left.
+/// with status 2, also for more than 1,048,576 bytes. `OutOfMemory` when memory is refused.
 pub fn check_text(alloc: Global, bytes: &[u8]) -> Result<Answer, OutOfMemory>
     ensures status { IfOk result (λ answer. code_of answer.status ≡ (checked_answer bytes.now).status) }
     ensures text { IfOk result (λ answer. answer.text ≡ (checked_answer bytes.now).text) }

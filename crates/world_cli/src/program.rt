@@ -15,7 +15,7 @@ use std::alloc::Global;
 
 const USAGE: &[u8] = b"usage: world run, serial, check, audit or big N, with options\n";
 
-// Writes a text, and answers the status that goes with it, or that the sink failed.
+// Writes a text, and returns the status that goes with it, or that the sink failed.
 fn finish<K: Sink>(sink: &mut K, status: Status, text: &[u8]) -> u8
     requires { (piece : List ℕ) → K.fits sink.old piece }
     ensures end { IsFinished result (code_of status) text.now
@@ -30,7 +30,7 @@ fn finish<K: Sink>(sink: &mut K, status: Status, text: &[u8]) -> u8
     }
 }
 
-/// The program `world`: carries out what the words ask for, and answers its exit status.
+/// The program `world`: carries out what the words ask for, and returns its exit status.
 ///
 /// `words` are those after the program's name. There are three forms so far, of one word each. With `run` and with `serial`
 /// the source is read to its end, its job is done, and the text of the job is written to the sink. With `check` the job is
@@ -42,7 +42,7 @@ fn finish<K: Sink>(sink: &mut K, status: Status, text: &[u8]) -> u8
 /// - 1: the words are in none of the forms; the usage line was written.
 /// - 2: the input isn't a job, or has more than 1,048,576 bytes; the line of its first fault was written.
 /// - 3: a command of the job overflows; the text before it was written, and a line that names it.
-/// - 4: there was no memory; nothing was written.
+/// - 4: memory was refused; nothing was written.
 /// - 5: the source failed; nothing was written.
 /// - 6: the sink failed; a prefix of what was to be written was written.
 pub fn world_main<S: Source, K: Sink>(

@@ -11,7 +11,7 @@ pub enum Status {
     JobFault = 2,
     /// A command of the job overflows; the text before it was written, and a line that names it.
     Overflow = 3,
-    /// There was no memory; nothing was written.
+    /// Memory was refused; nothing was written.
     OutOfMemory = 4,
     /// A read failed; nothing was written.
     ReadFault = 5,

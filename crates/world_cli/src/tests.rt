@@ -53,7 +53,7 @@ fn jobs_and_faults(rt: HostRuntime) -> Result<(), Fail> {
             b"tree f reconstructed\n0 0 5\n",
         ),
         (RAMP, 0, RAMP_TEXT),
-        // A difference that equals the tolerance is let stand.
+        // A difference that equals the tolerance is left unsplit.
         (
             b"job 1 depth 2\nproject f ramp 0 1 level 0 tol 2\nprint f\n",
             0,
@@ -276,8 +276,8 @@ fn failing_sink(rt: HostRuntime) -> Result<(), Fail> {
     Ok(())
 }
 
-// Over a sink in memory with no call made to fail, a write fails only where the sink found no memory.
-fn write_fault_is_want_of_memory(
+// Over a sink in memory with no call made to fail, a write fails only when the sink is refused memory.
+fn write_fault_is_out_of_memory(
     alloc: Global,
     words: &[String],
     source: &mut MemSource,
@@ -299,7 +299,7 @@ fn no_write_fault_with_memory(rt: HostRuntime) -> Result<(), Fail> {
     let mut source = MemSource::new(Vec::from_slice(alloc, RAMP)?, 1, Vec::new(alloc));
     let mut sink = MemSink::new(alloc, 1, Vec::new(alloc));
     assert_eq!(rt;
-        write_fault_is_want_of_memory(alloc, &words, &mut source, &mut sink),
+        write_fault_is_out_of_memory(alloc, &words, &mut source, &mut sink),
         0
     );
     assert!(rt; sink.bytes() == RAMP_TEXT);
