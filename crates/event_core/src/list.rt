@@ -75,7 +75,7 @@ impl EventList {
         ensures added { IfOk result (λ added. IsTrue added → self.new ≡ record self.old { log = on lane event.now ∷ self.old.log }) }
         ensures refused { IfOk result (λ added. IsFalse added → self.new ≡ self.old) }
         ensures no_memory { OnErr result (self.new ≡ self.old) }
-        ensures wants_memory { OnErr result (Allows self.old lane event.now) }
+        ensures err_allowed { OnErr result (Allows self.old lane event.now) }
         ensures legal { HasLegalLog self.new }
         ensures quiet { IfOk result (λ added. IsTrue added → (r : ReceiptData) → event.now ≡ Receives r → Quiet self.new.log self.old.log r) }
     {

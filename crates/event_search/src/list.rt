@@ -75,7 +75,7 @@ impl SearchedList {
         ensures added { IfOk result (λ added. IsTrue added → self.new ≡ record self.old { log = on lane event.now ∷ self.old.log }) }
         ensures refused { IfOk result (λ added. IsFalse added → self.new ≡ self.old) }
         ensures no_memory { OnErr result (self.new ≡ self.old) }
-        ensures wants_memory { OnErr result (Allows self.old lane event.now) }
+        ensures err_allowed { OnErr result (Allows self.old lane event.now) }
     {
         // A use of a field makes it known that the list is legal, of which the decision has need.
         let _ = &self.marks;

@@ -45,7 +45,7 @@ fn taken_by_both(alloc: Global, steps: &[Step]) -> Result<[usize; 2], OutOfMemor
 }
 
 #[test]
-fn a_fence_wants_two_passes_in_order(rt: HostRuntime) {
+fn a_fence_takes_two_passes_in_order(rt: HostRuntime) {
     let mut steps = [
         (hand(0, 0), Event::Enter(1)),
         reads(Kind::Handlings, 1),
