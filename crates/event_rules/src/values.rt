@@ -1,8 +1,10 @@
 //! What is found of a list of events, as values.
-ghost use Rattle.std.specs.Prelude.{◌↔◌, IsTrue};
+ghost use Rattle.std.specs.Prelude.{◌≡◌, ◌↔◌, List, slice_get, IsTrue};
+ghost use Rattle.event_lists.specs.declared.kind.Reading.{Reading as ReadingData};
+ghost use Rattle.event_lists.specs.Fences.{row_after};
 ghost use Rattle.event_rules.specs.States.{GoesTo, HasParcel};
 
-use event_lists::{Bringer, Future, Item, Parcel, Reading, TaskName};
+use event_lists::{Bringer, Future, Item, Parcel, Reading, Row, TaskName};
 
 /// What was sent to a rank, or submitted.
 #[derive(Clone, Copy, Debug, PartialEq, Eq)]
@@ -70,6 +72,27 @@ pub struct Recent {
     pub first: Option<Reading>,
     pub second: Option<Reading>,
     pub third: Option<Reading>,
+}
+
+impl Recent {
+    /// The row of a pass that is completed by a reading of `sent` after these readings.
+    pub fn row_after(&self, sent: u64) -> Row
+        ensures { (rs : List ReadingData) → self.now.second ≡ slice_get rs 1 → self.now.third ≡ slice_get rs 2
+            → result ≡ row_after sent rs }
+    {
+        match (self.second, self.third) {
+            (Some(ran), Some(handled)) => Row {
+                sent,
+                handled: handled.found,
+                tasks: ran.found,
+            },
+            _ => Row {
+                sent,
+                handled: 0,
+                tasks: 0,
+            },
+        }
+    }
 }
 
 /// The state of a lane.

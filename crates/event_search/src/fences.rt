@@ -1,7 +1,7 @@
 //! Counts, readings, rows and receipts.
 ghost use Rattle.std.specs.Prelude.{◌≡◌, ◌<◌, ◌≤◌, [], ◌∷◌, length, reverse, slice_get, MatchOption, IfSome};
 ghost use Rattle.event_lists.specs.Events.{part, count};
-ghost use Rattle.event_lists.specs.Fences.{readings, passes, row_after, row_of, has_receipt};
+ghost use Rattle.event_lists.specs.Fences.{readings, passes, row_of, has_receipt};
 
 use crate::lanes::newest_on;
 use event_lists::{Event, Kind, LaneName, Mark, Reading, Row};
@@ -74,25 +74,6 @@ pub fn recent(lane: LaneName, marks: &[Mark]) -> Recent
     }
 }
 
-/// The row of a pass that is completed after these readings.
-pub fn row_after(sent: u64, lane: LaneName, marks: &[Mark]) -> Row
-    ensures { result ≡ row_after sent (readings (part lane (reverse marks.now))) }
-{
-    let recent = recent(lane, marks);
-    match (recent.second, recent.third) {
-        (Some(ran), Some(handled)) => Row {
-            sent,
-            handled: handled.found,
-            tasks: ran.found,
-        },
-        _ => Row {
-            sent,
-            handled: 0,
-            tasks: 0,
-        },
-    }
-}
-
 /// What a main read in a pass of a fence that it completed.
 pub fn row_of(fence: u32, pass: u64, lane: LaneName, marks: &[Mark]) -> Option<Row>
     ensures { result ≡ row_of fence pass (part lane (reverse marks.now)) }
@@ -105,7 +86,7 @@ pub fn row_of(fence: u32, pass: u64, lane: LaneName, marks: &[Mark]) -> Option<R
                 pass: of,
             },
             before,
-        ) if *in_fence == fence && *of == pass => Some(row_after(*value, lane, before)),
+        ) if *in_fence == fence && *of == pass => Some(recent(lane, before).row_after(*value)),
         (_, before) => row_of(fence, pass, lane, before),
     }
 }

@@ -21,16 +21,9 @@ use event_rules::{LaneState, Made, events};
 fn item_of(rank: u32, event: &Event) -> Option<Item>
     ensures { result ≡ item_of rank event.now }
 {
-    match event {
-        Event::Sent { number, .. } => Some(Item::Message {
-            rank,
-            number: *number,
-        }),
-        Event::Submitted { number, .. } => Some(Item::Task {
-            rank,
-            number: *number,
-        }),
-        _ => events::takes(event),
+    match events::makes(rank, event) {
+        Some(item) => Some(item),
+        None => events::takes(event),
     }
 }
 

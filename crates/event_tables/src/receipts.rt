@@ -2,12 +2,9 @@
 ghost use Rattle.std.specs.Prelude.{◌≡◌, ◌==◌, ℕ, List, ◌∷◌, true, Some, OnOk};
 ghost use Rattle.event_lists.specs.declared.lane.LaneName.{LaneName as LaneNameData};
 ghost use Rattle.event_lists.specs.declared.mark.Mark.{Mark as MarkData};
-ghost use Rattle.event_lists.specs.declared.event.Event.{Event as EventData};
-ghost use Rattle.event_lists.specs.Fences.{readings, row_after};
 ghost use Rattle.event_lists.specs.Legal.{Legal};
 ghost use Rattle.event_rules.specs.Listed.{on};
 ghost use Rattle.event_rules.specs.Shown.{ShowsLane};
-ghost use Rattle.event_tables.specs.Lanes.{AreLast};
 ghost use Rattle.event_tables.specs.declared.keys.PassName.{PassName as PassNameData};
 ghost use Rattle.event_tables.specs.Keys.{same_pass};
 ghost use Rattle.event_tables.specs.Tables.{value_at, has_place};
@@ -18,25 +15,7 @@ use crate::keys::PassName;
 use crate::table::Table;
 use app_core::OutOfMemory;
 use event_lists::{Event, LaneName, Row};
-use event_rules::{LaneState, Recent};
-
-/// The row of a pass that a reading of sent completes, after these readings.
-fn row_after(sent: u64, recent: &Recent) -> Row
-    ensures { (mine : List EventData) → AreLast (readings mine) recent.now → result ≡ row_after sent (readings mine) }
-{
-    match (recent.second, recent.third) {
-        (Some(ran), Some(handled)) => Row {
-            sent,
-            handled: handled.found,
-            tasks: ran.found,
-        },
-        _ => Row {
-            sent,
-            handled: 0,
-            tasks: 0,
-        },
-    }
-}
+use event_rules::LaneState;
 
 /// The pass that an event completes.
 fn pass_of(lane: LaneName, event: &Event) -> Option<PassName>
@@ -88,7 +67,7 @@ pub fn note_row(
             fence,
             pass,
         };
-        rows.set(name, Some(row_after(value, &state.recent)));
+        rows.set(name, Some(state.recent.row_after(value)));
     }
 }
 
