@@ -102,3 +102,16 @@ touched (of.Erase name) = name ∷ []
 -- one of them puts or erases this entry
 abbrev pub Touches : List Outline → CellName → Type 0
 Touches os n = Contains (flat_map touched os) n
+
+-- this future, if they name it, is the due of exactly one unit that they spawn
+abbrev pub IsDueOnceIfNamed : Label → List Outline → Type 0
+IsDueOnceIfNamed l os = Names os l → IsDueOnce l os
+
+-- this future, if they create it, is the due of exactly one unit that they spawn; what they name is created, but for the
+-- spawner's own due
+abbrev pub IsDueOnceIfCreated : Option Label → Label → List Outline → Type 0
+IsDueOnceIfCreated own l os = Names os l → own ≢ Some l → IsDueOnce l os
+
+-- this future, if they create it, is needed by exactly one unit that they spawn
+abbrev pub IsNeededOnceIfCreated : Option Label → Label → List Outline → Type 0
+IsNeededOnceIfCreated own l os = Names os l → own ≢ Some l → IsNeededOnce l os

@@ -1,5 +1,5 @@
 //! The trait of an application, with its laws.
-ghost use Rattle.std.specs.Prelude.{◌≡◌, ◌≢◌, ◌↔◌, ℕ, ◌-◌, ◌^◌, ◌<◌, ◌≤◌, List, length, Option, Some, IsSome, IfSome, IfOk, slice_get, Contains};
+ghost use Rattle.std.specs.Prelude.{◌≡◌, ◌↔◌, ℕ, ◌-◌, ◌^◌, ◌<◌, ◌≤◌, List, length, Option, Some, IsSome, IfSome, IfOk, slice_get, Contains};
 ghost use Rattle.std.specs.List.{AllByRecursion};
 ghost use Rattle.app_core.specs.declared.label.Label.{Label as LabelData};
 ghost use Rattle.app_core.specs.declared.label.CellName.{CellName as CellNameData};
@@ -10,7 +10,7 @@ ghost use Rattle.app_core.specs.Commands.{kind_of, IsCommand, IsWork, IsRankCoun
 ghost use Rattle.app_core.specs.Homes.{rank_within};
 ghost use Rattle.app_core.specs.Inputs.{Fits, AreRightInputs};
 ghost use Rattle.app_core.specs.Effects.{IsRightEffect, IsSpawnedWithNeeds, IsSpawn};
-ghost use Rattle.app_core.specs.Outlines.{outlines, IsDueOnce, IsNeededOnce, IsNeededNever, IsSeenToOnce, GivesOnly, NeedingRunsAt, Names, Touches};
+ghost use Rattle.app_core.specs.Outlines.{outlines, IsDueOnceIfNamed, IsDueOnceIfCreated, IsNeededOnceIfCreated, IsNeededNever, IsSeenToOnce, GivesOnly, NeedingRunsAt, Names, Touches};
 
 use crate::OutOfMemory;
 use crate::effects::Effects;
@@ -195,18 +195,13 @@ pub trait App: Facts + Sync {
     /// A future that the starts create is the due of exactly one of them.
     ghost starts_have_a_due_once: { (app : Self) (command ranks : ℕ) (future : LabelData)
         → IsCommand (Self.kinds_of app) command → IsRankCount ranks
-        → Names (outlines (label_of app) (due_of app) (home_of app) (kept_at app)
-        ranks (starting_of app command ranks)) future
-        → IsDueOnce future (outlines (label_of app) (due_of app) (home_of app) (kept_at app)
+        → IsDueOnceIfNamed future (outlines (label_of app) (due_of app) (home_of app) (kept_at app)
         ranks (starting_of app command ranks)) };
 
     /// A future that the starts create, other than the command's result, is needed by exactly one of them.
     ghost starts_need_others_once: { (app : Self) (command ranks : ℕ) (future : LabelData)
         → IsCommand (Self.kinds_of app) command → IsRankCount ranks
-        → Names (outlines (label_of app) (due_of app) (home_of app) (kept_at app)
-        ranks (starting_of app command ranks)) future
-        → result_of app command ≢ Some future
-        → IsNeededOnce future (outlines (label_of app) (due_of app) (home_of app) (kept_at app)
+        → IsNeededOnceIfCreated (result_of app command) future (outlines (label_of app) (due_of app) (home_of app) (kept_at app)
         ranks (starting_of app command ranks)) };
 
     /// None of the starts needs the command's result.
@@ -287,19 +282,13 @@ pub trait App: Facts + Sync {
     /// A future that a step creates is the due of exactly one unit that it spawns.
     ghost spawns_have_a_due_once: { (app : Self) (unit : Self.Unit) (given : Given Self.Value Self.Cell) (future : LabelData)
         → is_unit app unit → Fits (needs_of app unit) (reads_of app unit) given
-        → Names (outlines (label_of app) (due_of app) (home_of app) (kept_at app)
-        (Self.ranks_of app) (step_of app unit given)) future
-        → due_of app unit ≢ Some future
-        → IsDueOnce future (outlines (label_of app) (due_of app) (home_of app) (kept_at app)
+        → IsDueOnceIfCreated (due_of app unit) future (outlines (label_of app) (due_of app) (home_of app) (kept_at app)
         (Self.ranks_of app) (step_of app unit given)) };
 
     /// A future that a step creates is needed by exactly one unit that it spawns.
     ghost spawns_need_others_once: { (app : Self) (unit : Self.Unit) (given : Given Self.Value Self.Cell) (future : LabelData)
         → is_unit app unit → Fits (needs_of app unit) (reads_of app unit) given
-        → Names (outlines (label_of app) (due_of app) (home_of app) (kept_at app)
-        (Self.ranks_of app) (step_of app unit given)) future
-        → due_of app unit ≢ Some future
-        → IsNeededOnce future (outlines (label_of app) (due_of app) (home_of app) (kept_at app)
+        → IsNeededOnceIfCreated (due_of app unit) future (outlines (label_of app) (due_of app) (home_of app) (kept_at app)
         (Self.ranks_of app) (step_of app unit given)) };
 
     /// Any two units that put or erase one entry, on whatever inputs, run at one rank.
