@@ -1,4 +1,5 @@
 pub mod Follows
+pub mod AppRuns
 pub mod Trees
 pub mod Apart
 pub mod Held

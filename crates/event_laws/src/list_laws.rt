@@ -7,7 +7,8 @@ ghost use Rattle.app_core.specs.Commands.{IsWork};
 ghost use Rattle.app_core.specs.Outlines.{Touches};
 ghost use Rattle.app_core.specs.declared.outline.Outline.TheVariants.{Put as Puts, Erase as Erases};
 ghost use Rattle.event_lists.specs.declared.mark.Mark.{Mark as MarkData};
-ghost use Rattle.event_laws.specs.Follows.{TaskEffects, IsRun, program_from};
+ghost use Rattle.event_laws.specs.Follows.{TaskEffects};
+ghost use Rattle.event_laws.specs.AppRuns.{IsRunOf};
 ghost use Rattle.event_lists.specs.declared.receipt.Receipt.{Receipt as ReceiptData};
 ghost use Rattle.event_laws.specs.Trees.{unit_of};
 ghost use Rattle.event_laws.specs.Held.{HasReceipt, IsBefore, ComesAfter, BinsHold, AreDifferent, AllSound, HasNoWriter, all_told};
@@ -34,33 +35,33 @@ pub trait ListLaws: Facts {
 
     /// No two spawns have one unit label.
     ghost spawns_apart: { (app : Self) (task_effects : TaskEffects) (log : List MarkData) (workers : ℕ)
-        → IsRun (Self.ranks_of app) workers (program_from 1 (Self.kinds_of app) (Self.starts_of app)) (Self.may_do app) task_effects log
+        → IsRunOf Self.Facts app workers task_effects log
         → Apart (spawned log) };
 
     /// No label is created by two bringers.
     ghost one_bringer: { (app : Self) (task_effects : TaskEffects) (log : List MarkData) (workers : ℕ)
-        → IsRun (Self.ranks_of app) workers (program_from 1 (Self.kinds_of app) (Self.starts_of app)) (Self.may_do app) task_effects log
+        → IsRunOf Self.Facts app workers task_effects log
         → HasOneBringer log };
 
     /// Among the effects of all begun tasks, carried out or not, no entry has two puts.
     ghost puts_apart: { (app : Self) (task_effects : TaskEffects) (log : List MarkData) (workers : ℕ)
-        → IsRun (Self.ranks_of app) workers (program_from 1 (Self.kinds_of app) (Self.starts_of app)) (Self.may_do app) task_effects log
+        → IsRunOf Self.Facts app workers task_effects log
         → EffectsApart (λ c. Puts c) task_effects };
 
     /// Among the effects of all begun tasks, carried out or not, no entry has two erases.
     ghost erases_apart: { (app : Self) (task_effects : TaskEffects) (log : List MarkData) (workers : ℕ)
-        → IsRun (Self.ranks_of app) workers (program_from 1 (Self.kinds_of app) (Self.starts_of app)) (Self.may_do app) task_effects log
+        → IsRunOf Self.Facts app workers task_effects log
         → EffectsApart (λ c. Erases c) task_effects };
 
     /// An entry that a begun task erases was put before that task was taken.
     ghost erases_put: { (app : Self) (task_effects : TaskEffects) (log : List MarkData) (workers : ℕ)
-        → IsRun (Self.ranks_of app) workers (program_from 1 (Self.kinds_of app) (Self.starts_of app)) (Self.may_do app) task_effects log
+        → IsRunOf Self.Facts app workers task_effects log
         → ErasesPut task_effects log };
 
     /// At the receipt of a fence the bins hold, of each version that a sound command before the fence writes, just the
     /// entries that `holds_of` names; and they hold them from then on.
     ghost bins_hold: { (app : Self) (task_effects : TaskEffects) (log before : List MarkData) (workers : ℕ) (x : MarkData) (r : ReceiptData) (version command : ℕ)
-        → IsRun (Self.ranks_of app) workers (program_from 1 (Self.kinds_of app) (Self.starts_of app)) (Self.may_do app) task_effects log
+        → IsRunOf Self.Facts app workers task_effects log
         → HasReceipt log before x r
         → Self.writer_of app version ≡ Some command → Self.is_sound app command → IsBefore (Self.kinds_of app) command r.fence
         → BinsHold (Self.ranks_of app) (Self.holds_of app) version before × BinsHold (Self.ranks_of app) (Self.holds_of app) version log };
@@ -79,7 +80,7 @@ pub trait ListLaws: Facts {
     /// Where all commands before a fence are sound, the rows of its receipt sum up to the numbers of messages and tasks
     /// that `total_of` names.
     ghost totals_are_told: { (app : Self) (task_effects : TaskEffects) (log before : List MarkData) (workers : ℕ) (x : MarkData) (r : ReceiptData)
-        → IsRun (Self.ranks_of app) workers (program_from 1 (Self.kinds_of app) (Self.starts_of app)) (Self.may_do app) task_effects log
+        → IsRunOf Self.Facts app workers task_effects log
         → HasReceipt log before x r → AllSound (Self.kinds_of app) (Self.is_sound app) r.fence
         → all_told r ≡ Self.total_of app r.fence };
 
