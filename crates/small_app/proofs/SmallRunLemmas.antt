@@ -23,7 +23,8 @@ use Rattle.small_app.specs.declared.unit.Unit.TheVariants.{Fill, Leaf, Sum, Clea
 use Rattle.small_app.specs.declared.guess.GuessUnit.TheVariants.{Early, Late}
 use Rattle.small_app.specs.Small.{kinds, first_result, leaf_future, leaf_entry, leaf_value, label_of, kept_at, step_of, told, MayDo}
 use Rattle.small_app.specs.SmallUnits.{program, no_inputs, outlines_of, writer_of, IsSound}
-use Rattle.small_app.specs.SmallTree.{some_is, spawn}
+use Rattle.app_core.proofs.CountLemmas.{some_is}
+use Rattle.small_app.specs.SmallTree.{spawn}
 use Rattle.small_app.specs.SmallRun.{fill_task, left_task, right_task, sum_task, clear_task, task_effects, acts, stores, row_0, row_1, receipt, second_pass, whole_run}
 
 -- what holds of both ranks holds of each

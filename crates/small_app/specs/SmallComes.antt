@@ -6,6 +6,7 @@ use Rattle.app_core.specs.declared.Label.{Label}
 use Rattle.app_core.specs.declared.Outline.{Outline}
 use Rattle.app_core.specs.declared.Outline.TheVariants as of
 use Rattle.app_core.specs.Given.{Given}
+use Rattle.app_core.proofs.CountLemmas.{some_is}
 use Rattle.app_core.specs.Commands.{IsWork}
 use Rattle.app_core.specs.Outlines.{same_label}
 use Rattle.event_lists.proofs.FutureLemmas.{same_label_refl}
@@ -20,7 +21,7 @@ use Rattle.small_app.specs.declared.guess.GuessUnit.TheVariants.{Guess, Early, L
 use Rattle.small_app.specs.GuessLaws.{command_is}
 use Rattle.small_app.specs.Small.{kinds, leaf_future, leaf_value, label_of, needs_of, due_of, home_of, step_of, told, IsUnit, MayDo, starts_of}
 use Rattle.small_app.specs.SmallUnits.{program, outlines_of, plan, home, first_units, all_units, units_before}
-use Rattle.small_app.specs.SmallTree.{spawn, by_start, by_label, spawns_only, at_label, some_is}
+use Rattle.small_app.specs.SmallTree.{spawn, by_start, by_spawn, spawns_only, at_label}
 
 -- commands
 
@@ -85,25 +86,9 @@ came : (ranks : ℕ) (u : Label) (q : ℕ) → Comes (program ranks) (MayDo rank
 came ranks u q (started k _ d ns _ e) = by_start ranks (λ k o. (u : Label) (d : Option Label) (ns : List Label) (h : ℕ) → o ≡ of.Spawn u d ns h → IsAUnit ranks u h)
     (is_unit ranks Fill tt refl) (is_unit ranks Read tt refl) (is_unit ranks Count tt refl) (is_unit ranks Total tt refl)
     (is_unit ranks (Guessed Guess) tt refl) (is_unit ranks (Guessed Early) tt refl) k (of.Spawn u d ns q) e u d ns q refl
-came ranks u q (spawned p rank os i _ d ns _ c m e) = by_label ranks (λ p i o. (u : Label) (d : Option Label) (ns : List Label) (h : ℕ) → o ≡ of.Spawn u d ns h → IsAUnit ranks u h) (record {
-  left = is_unit ranks (Leaf false (leaf_value false)) refl refl;
-  right = is_unit ranks (Leaf true (leaf_value true)) refl refl;
-  sum = is_unit ranks Sum tt refl;
-  put = λ _ _ u d ns h e. absurd (cc);
-  leaf_gives = λ _ _ u d ns h e. absurd (cc);
-  clear = is_unit ranks Clear tt refl;
-  sum_gives = λ u d ns h e. absurd (cc);
-  erase = λ u d ns h e. absurd (cc);
-  read_gives = λ u d ns h e. absurd (cc);
-  count_gives = λ u d ns h e. absurd (cc);
-  total_gives = λ u d ns h e. absurd (cc);
-  guess_gives = λ u d ns h e. absurd (cc);
-  early_puts = λ u d ns h e. absurd (cc);
-  early_gives = λ u d ns h e. absurd (cc);
-  late = is_unit ranks (Guessed Late) tt refl;
-  late_puts = λ u d ns h e. absurd (cc);
-  late_gives = λ u d ns h e. absurd (cc);
-}) p os i (of.Spawn u d ns q) m e u d ns q refl
+came ranks u q (spawned p rank os i _ d ns _ c m e) = by_spawn ranks (λ _ u _ _ h. IsAUnit ranks u h)
+    (is_unit ranks (Leaf false (leaf_value false)) refl refl) (is_unit ranks (Leaf true (leaf_value true)) refl refl) (is_unit ranks Sum tt refl)
+    (is_unit ranks Clear tt refl) (is_unit ranks (Guessed Late) tt refl) p os i u d ns q m e
 
 -- the effects of a unit of the first two work commands are the same on all inputs
 same_effects : (ranks : ℕ) (unit : Unit) (given : Given ℕ ℕ) → (label_of unit).command < 5 → told ranks (step_of unit given) ≡ outlines_of ranks unit

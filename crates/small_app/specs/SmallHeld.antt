@@ -30,7 +30,7 @@ use Rattle.small_app.specs.GuessLaws.{command_is, touches_its_entry}
 use Rattle.small_app.specs.Small.{kinds, leaf_entry, leaf_future, leaf_value, leaf_rank, label_of, home_of, entry_home_of, reads_of, counts_of, dropped_of, IsRightSize, step_of, told, MayDo, MayRead, MayCount}
 use Rattle.small_app.specs.SmallUnits.{program, unit_at, no_inputs, outlines_of, IsSound, plan, home, parent, raiser, dues, needs, first_units, units_before, writer_of, holds, total_of}
 use Rattle.small_app.specs.SmallTree.{by_outline, by_label, tree}
-use Rattle.small_app.specs.SmallNames.{futures, places, puts_once, erases_once, eraser_waits}
+use Rattle.small_app.specs.SmallNames.{futures, places, unit_erases, puts_once, erases_once, eraser_waits}
 use Rattle.small_app.specs.SmallComes.{stage, staged, OfFirst, first_is_before, first_are_units, units_are}
 
 -- the entries
@@ -75,25 +75,7 @@ puts_leaf ranks unit i c one e = by_outline ranks (λ unit i o. (c : CellName) �
 }) unit no_inputs i (of.Put c) e c one refl
 
 erases_right : (ranks : ℕ) (unit : Unit) (i : ℕ) (c : CellName) → slice_get (outlines_of ranks unit) i ≡ Some (of.Erase c) → c ≡ leaf_entry true
-erases_right ranks unit i c e = by_outline ranks (λ unit i o. (c : CellName) → o ≡ of.Erase c → c ≡ leaf_entry true) (record {
-  left = λ c e. absurd (cc);
-  right = λ c e. absurd (cc);
-  sum = λ c e. absurd (cc);
-  put = λ _ _ c e. absurd (cc);
-  leaf_gives = λ _ _ c e. absurd (cc);
-  clear = λ c e. absurd (cc);
-  sum_gives = λ c e. absurd (cc);
-  erase = λ c e. let z : leaf_entry true ≡ c = cc in sym z;
-  read_gives = λ c e. absurd (cc);
-  count_gives = λ c e. absurd (cc);
-  total_gives = λ c e. absurd (cc);
-  guess_gives = λ c e. absurd (cc);
-  early_puts = λ c e. absurd (cc);
-  early_gives = λ c e. absurd (cc);
-  late = λ c e. absurd (cc);
-  late_puts = λ c e. absurd (cc);
-  late_gives = λ c e. absurd (cc);
-}) unit no_inputs i (of.Erase c) e c refl
+erases_right ranks unit i c e = (unit_erases ranks unit no_inputs i c e).2
 
 -- who puts or erases an entry of version 1 is of the first command
 leaf_command : (right : Bool) → (leaf_future right).command ≡ 1

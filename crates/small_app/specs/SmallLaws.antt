@@ -56,7 +56,7 @@ pub starts_have_their_needs : (command : ℕ) → IsCommand kinds command → Al
 starts_have_their_needs = by_command (λ command. AllByRecursion (IsSpawnedWithNeeds {U = Unit} {V = ℕ} {C = ℕ} needs_of) (starting_of command)) (refl, tt) tt (refl, (refl, ((refl, filled _ _), tt))) tt (refl, ((refl, filled _ _), tt))
 
 -- where rank 0 is named, it is taken
-first_rank : (ranks : ℕ) → rank_within ranks (Some 0) ≡ 0
+pub first_rank : (ranks : ℕ) → rank_within ranks (Some 0) ≡ 0
 first_rank ranks = either (nat_lt 0 ranks) 0
   where
     either : (b : Bool) (n : ℕ) → (if b then n else n) ≡ n

@@ -7,7 +7,7 @@ use Rattle.app_core.specs.declared.CellName.{CellName}
 use Rattle.app_core.specs.declared.Outline.{Outline}
 use Rattle.app_core.specs.declared.Outline.TheVariants as of
 use Rattle.app_core.specs.Given.{Given}
-use Rattle.app_core.specs.Homes.{rank_within}
+use Rattle.app_core.proofs.CountLemmas.{some_is}
 use Rattle.app_core.specs.Outlines.{named}
 use Rattle.event_laws.specs.Trees.{unit_of, BringsUp, SpawnsNot, IsOnce, IsPlaced, IsAbove, same, above, GivesAfterPut, ErasesWait}
 use Rattle.small_app.specs.declared.unit.Unit.{Unit}
@@ -17,7 +17,8 @@ use Rattle.small_app.specs.declared.guess.GuessUnit.TheVariants.{Guess, Early, L
 use Rattle.small_app.specs.Guess.{guess_result, guess_future, guess_entry, early_step}
 use Rattle.small_app.specs.Small.{first_result, last_result, leaf_future, read_future, count_future, leaf_entry, leaf_value, label_of, due_of, needs_of, home_of, kept_at, step_of, told, IsUnit, MayDo}
 use Rattle.small_app.specs.SmallUnits.{program, home, needs, dues, parent, raiser}
-use Rattle.small_app.specs.SmallTree.{some_is, spawn, by_start, by_label}
+use Rattle.small_app.specs.SmallLaws.{first_rank}
+use Rattle.small_app.specs.SmallTree.{spawn, by_start, by_label, by_spawn, by_outline}
 
 -- futures
 
@@ -74,25 +75,8 @@ futures ranks = record {
   }) p os i o m e l n other;
   start_due = λ k u d ns h e. by_start ranks (λ k o. (u : Label) (d : Option Label) (ns : List Label) (h : ℕ) → o ≡ of.Spawn u d ns h → d ≡ dues u)
       (due_is ranks Fill refl) (due_is ranks Read refl) (due_is ranks Count refl) (due_is ranks Total refl) (due_is ranks (Guessed Guess) refl) (due_is ranks (Guessed Early) refl) k (of.Spawn u d ns h) e u d ns h refl;
-  step_due = λ p os i u d ns h m e. by_label ranks (λ p i o. (u : Label) (d : Option Label) (ns : List Label) (h : ℕ) → o ≡ of.Spawn u d ns h → d ≡ dues u) (record {
-    left = due_is ranks (Leaf false (leaf_value false)) refl;
-    right = due_is ranks (Leaf true (leaf_value true)) refl;
-    sum = due_is ranks Sum refl;
-    put = λ _ _ u d ns h e. absurd (cc);
-    leaf_gives = λ _ _ u d ns h e. absurd (cc);
-    clear = due_is ranks Clear refl;
-    sum_gives = λ u d ns h e. absurd (cc);
-    erase = λ u d ns h e. absurd (cc);
-    read_gives = λ u d ns h e. absurd (cc);
-    count_gives = λ u d ns h e. absurd (cc);
-    total_gives = λ u d ns h e. absurd (cc);
-    guess_gives = λ u d ns h e. absurd (cc);
-    early_puts = λ u d ns h e. absurd (cc);
-    early_gives = λ u d ns h e. absurd (cc);
-    late = due_is ranks (Guessed Late) refl;
-    late_puts = λ u d ns h e. absurd (cc);
-    late_gives = λ u d ns h e. absurd (cc);
-  }) p os i (of.Spawn u d ns h) m e u d ns h refl;
+  step_due = by_spawn ranks (λ _ u d _ _. d ≡ dues u)
+      (due_is ranks (Leaf false (leaf_value false)) refl) (due_is ranks (Leaf true (leaf_value true)) refl) (due_is ranks Sum refl) (due_is ranks Clear refl) (due_is ranks (Guessed Late) refl);
 }
 
 -- homes and needs
@@ -111,38 +95,18 @@ placed_as ranks from unit is u d ns h e =
 needless : (ranks from : ℕ) (unit : Unit) → home_of unit ranks ≡ home ranks (label_of unit) → needs_of unit ≡ needs (label_of unit) → needs_of unit ≡ [] → Placed ranks from (label_of unit) (needs_of unit) (home_of unit ranks)
 needless ranks from unit h n e = (h, n, λ some. absurd (some e))
 
-first_rank : (ranks : ℕ) → rank_within ranks (Some 0) ≡ 0
-first_rank ranks = either _ 0
-  where
-    either : (b : Bool) (n : ℕ) → (if b then n else n) ≡ n
-    either true n = refl
-    either false n = refl
-
 pub places : (ranks : ℕ) → IsPlaced (program ranks) (MayDo ranks) (home ranks) needs
 places ranks = record {
   starts = λ k u d ns h e. by_start ranks (λ k o. (u : Label) (d : Option Label) (ns : List Label) (h : ℕ) → o ≡ of.Spawn u d ns h → Placed ranks 0 u ns h)
       (placed_as ranks 0 Fill (needless ranks 0 Fill refl refl refl)) (placed_as ranks 0 Read (needless ranks 0 Read refl refl refl)) (placed_as ranks 0 Count (needless ranks 0 Count refl refl refl))
       (placed_as ranks 0 Total (refl, refl, (λ _. first_rank ranks)))
       (placed_as ranks 0 (Guessed Guess) (needless ranks 0 (Guessed Guess) refl refl refl)) (placed_as ranks 0 (Guessed Early) (refl, refl, (λ _. first_rank ranks))) k (of.Spawn u d ns h) e u d ns h refl;
-  steps = λ p os i u d ns h m e. by_label ranks (λ p i o. (u : Label) (d : Option Label) (ns : List Label) (h : ℕ) → o ≡ of.Spawn u d ns h → Placed ranks (home ranks p) u ns h) (record {
-    left = placed_as ranks (home ranks (label_of Fill)) (Leaf false (leaf_value false)) (needless ranks _ (Leaf false (leaf_value false)) refl refl refl);
-    right = placed_as ranks (home ranks (label_of Fill)) (Leaf true (leaf_value true)) (needless ranks _ (Leaf true (leaf_value true)) refl refl refl);
-    sum = placed_as ranks (home ranks (label_of Fill)) Sum (refl, refl, (λ _. refl));
-    put = λ _ _ u d ns h e. absurd (cc);
-    leaf_gives = λ _ _ u d ns h e. absurd (cc);
-    clear = placed_as ranks (home ranks (label_of Sum)) Clear (needless ranks _ Clear refl refl refl);
-    sum_gives = λ u d ns h e. absurd (cc);
-    erase = λ u d ns h e. absurd (cc);
-    read_gives = λ u d ns h e. absurd (cc);
-    count_gives = λ u d ns h e. absurd (cc);
-    total_gives = λ u d ns h e. absurd (cc);
-    guess_gives = λ u d ns h e. absurd (cc);
-    early_puts = λ u d ns h e. absurd (cc);
-    early_gives = λ u d ns h e. absurd (cc);
-    late = placed_as ranks (home ranks (label_of (Guessed Early))) (Guessed Late) (needless ranks _ (Guessed Late) refl refl refl);
-    late_puts = λ u d ns h e. absurd (cc);
-    late_gives = λ u d ns h e. absurd (cc);
-  }) p os i (of.Spawn u d ns h) m e u d ns h refl;
+  steps = by_spawn ranks (λ p u _ ns h. Placed ranks (home ranks p) u ns h)
+      (placed_as ranks (home ranks (label_of Fill)) (Leaf false (leaf_value false)) (needless ranks _ (Leaf false (leaf_value false)) refl refl refl))
+      (placed_as ranks (home ranks (label_of Fill)) (Leaf true (leaf_value true)) (needless ranks _ (Leaf true (leaf_value true)) refl refl refl))
+      (placed_as ranks (home ranks (label_of Fill)) Sum (refl, refl, (λ _. refl)))
+      (placed_as ranks (home ranks (label_of Sum)) Clear (needless ranks _ Clear refl refl refl))
+      (placed_as ranks (home ranks (label_of (Guessed Early))) (Guessed Late) (needless ranks _ (Guessed Late) refl refl refl));
 }
 
 -- entries
@@ -219,8 +183,9 @@ first_place : (p : Label) (os : List Outline) (i : ℕ) (c : CellName) → IsLea
 first_place p os i c (inl leaf) = leaf.1
 first_place p os i c (inr guess) = guess.1
 
-pub one_erase : (ranks : ℕ) (p : Label) (os : List Outline) (i : ℕ) (c : CellName) → MayDo ranks p os → slice_get os i ≡ Some (of.Erase c) → (p ≡ label_of Clear) × (i ≡ 0) × (c ≡ leaf_entry true)
-one_erase ranks p os i c m e = by_label ranks (λ p i o. (c : CellName) → o ≡ of.Erase c → (p ≡ label_of Clear) × (i ≡ 0) × (c ≡ leaf_entry true)) (record {
+-- only one unit erases, an entry alone
+pub unit_erases : (ranks : ℕ) (unit : Unit) (given : Given ℕ ℕ) (i : ℕ) (c : CellName) → slice_get (told ranks (step_of unit given)) i ≡ Some (of.Erase c) → (label_of unit ≡ label_of Clear) × (i ≡ 0) × (c ≡ leaf_entry true)
+unit_erases ranks unit given i c e = by_outline ranks (λ unit i o. (c : CellName) → o ≡ of.Erase c → (label_of unit ≡ label_of Clear) × (i ≡ 0) × (c ≡ leaf_entry true)) (record {
   left = λ c e. absurd (cc);
   right = λ c e. absurd (cc);
   sum = λ c e. absurd (cc);
@@ -238,7 +203,12 @@ one_erase ranks p os i c m e = by_label ranks (λ p i o. (c : CellName) → o �
   late = λ c e. absurd (cc);
   late_puts = λ c e. absurd (cc);
   late_gives = λ c e. absurd (cc);
-}) p os i (of.Erase c) m e c refl
+}) unit given i (of.Erase c) e c refl
+
+pub one_erase : (ranks : ℕ) (p : Label) (os : List Outline) (i : ℕ) (c : CellName) → MayDo ranks p os → slice_get os i ≡ Some (of.Erase c) → (p ≡ label_of Clear) × (i ≡ 0) × (c ≡ leaf_entry true)
+one_erase ranks p os i c (unit, given, is, label, right, lists) e =
+    let erases = unit_erases ranks unit given i c (subst (λ (z : List Outline). slice_get z i ≡ Some (of.Erase c)) lists e) in
+    (sym label ∙ erases.0, erases.1, erases.2)
 
 -- two units that put an entry are one, or the early one and the late one, which the early one then doesn't spawn
 apart : (p q : Label) (os ps : List Outline) (i j : ℕ) (c : CellName) → IsLeafPut p i c ⊎ IsGuessPut p os i c → IsLeafPut q j c ⊎ IsGuessPut q ps j c

@@ -1,10 +1,11 @@
 -- The labels of the small application's units form a tree, and tell who creates each future.
 use Rattle.std.proofs.Common.{◌≡◌, ℕ, zero, suc, Bool, true, false, List, refl, sym, ap, subst, ◌∙◌}
-use Rattle.std.specs.Prelude.{Some, None, slice_get, slice_index, if◌then◌else◌, ◌==◌}
+use Rattle.std.specs.Prelude.{Option, Some, None, slice_get, slice_index, if◌then◌else◌, ◌==◌}
 use Rattle.app_core.specs.declared.Label.{Label}
 use Rattle.app_core.specs.declared.Outline.{Outline}
 use Rattle.app_core.specs.declared.Outline.TheVariants as of
 use Rattle.app_core.specs.Given.{Given}
+use Rattle.app_core.proofs.CountLemmas.{some_is}
 use Rattle.event_laws.specs.Follows.{Start, Wait}
 use Rattle.event_laws.specs.Trees.{unit_of, LabelsAreTree}
 use Rattle.small_app.specs.declared.unit.Unit.{Unit}
@@ -27,9 +28,6 @@ at_label Total is = refl
 at_label (Guessed Guess) is = refl
 at_label (Guessed Early) is = refl
 at_label (Guessed Late) is = refl
-
-pub some_is : {A : Type 0} (a b : A) → Some a ≡ Some b → a ≡ b
-some_is a b e = cc
 
 -- the effect that spawns a unit
 abbrev pub spawn : ℕ → Unit → Outline
@@ -109,6 +107,42 @@ by_outline ranks P h (Guessed Late) given (suc (suc i)) o e = absurd (cc)
 -- the same of what a label allows
 pub by_label : (ranks : ℕ) (P : Label → ℕ → Outline → Type 0) → OfOutlines ranks (λ unit. P (label_of unit)) → (p : Label) (os : List Outline) (i : ℕ) (o : Outline) → MayDo ranks p os → slice_get os i ≡ Some o → P p i o
 by_label ranks P h p os i o (unit, given, is, label, right, lists) e = subst (λ (z : Label). P z i o) label (by_outline ranks (λ u. P (label_of u)) h unit given i o (subst (λ (z : List Outline). slice_get z i ≡ Some o) lists e))
+
+-- what is to be shown of the spawn of a unit by the unit of a label: by its label, its due, its needs and its home
+abbrev pub Spawned : (Label → Label → Option Label → List Label → ℕ → Type 0) → ℕ → Label → Unit → Type 0
+Spawned P ranks p unit = (u : Label) (d : Option Label) (ns : List Label) (h : ℕ) → spawn ranks unit ≡ of.Spawn u d ns h → P p u d ns h
+
+-- each spawn of a step
+pub by_spawn :
+    (ranks : ℕ) (P : Label → Label → Option Label → List Label → ℕ → Type 0) →
+    Spawned P ranks (label_of Fill) (Leaf false (leaf_value false)) →
+    Spawned P ranks (label_of Fill) (Leaf true (leaf_value true)) →
+    Spawned P ranks (label_of Fill) Sum →
+    Spawned P ranks (label_of Sum) Clear →
+    Spawned P ranks (label_of (Guessed Early)) (Guessed Late) →
+    (p : Label) (os : List Outline) (i : ℕ) (u : Label) (d : Option Label) (ns : List Label) (h : ℕ) →
+    MayDo ranks p os →
+    slice_get os i ≡ Some (of.Spawn u d ns h) →
+    P p u d ns h
+by_spawn ranks P left right sum clear late p os i u d ns h m e = by_label ranks (λ p i o. (u : Label) (d : Option Label) (ns : List Label) (h : ℕ) → o ≡ of.Spawn u d ns h → P p u d ns h) (record {
+  left = left;
+  right = right;
+  sum = sum;
+  put = λ _ _ u d ns h e. absurd (cc);
+  leaf_gives = λ _ _ u d ns h e. absurd (cc);
+  clear = clear;
+  sum_gives = λ u d ns h e. absurd (cc);
+  erase = λ u d ns h e. absurd (cc);
+  read_gives = λ u d ns h e. absurd (cc);
+  count_gives = λ u d ns h e. absurd (cc);
+  total_gives = λ u d ns h e. absurd (cc);
+  guess_gives = λ u d ns h e. absurd (cc);
+  early_puts = λ u d ns h e. absurd (cc);
+  early_gives = λ u d ns h e. absurd (cc);
+  late = late;
+  late_puts = λ u d ns h e. absurd (cc);
+  late_gives = λ u d ns h e. absurd (cc);
+}) p os i (of.Spawn u d ns h) m e u d ns h refl
 
 -- a fact on a label is one on an equal one
 moved : {A : Type 0} (f : Label → A) (a u : Label) (v : A) → f a ≡ v → Some a ≡ Some u → f u ≡ v
