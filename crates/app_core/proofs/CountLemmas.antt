@@ -1,4 +1,4 @@
--- Tests that pass once or never in a list, said of places.
+-- Lemmas that crates above use: tests that pass once or never in a list.
 use Rattle.std.proofs.Common.{◌≡◌, ℕ, zero, suc, ◌+◌, Bool, true, false, List, [], ◌∷◌, refl, sym, ap, ◌∙◌, arith, cond}
 use Rattle.std.specs.Prelude.{Some, slice_get, count_by}
 use Rattle.std.proofs.lemmas.List.Sums.{sum_by-cons}

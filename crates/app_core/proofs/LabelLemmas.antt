@@ -1,4 +1,4 @@
--- Labels that are named, and entries that are touched, by one outline of a list.
+-- Lemmas that crates above use: equal labels, and labels that one outline of a list names.
 use Rattle.std.proofs.Common.{◌≡◌, ℕ, zero, suc, ◌+◌, Bool, true, false, List, [], ◌∷◌, ◌++◌, length, refl, sym, ap, ◌∙◌, subst, arith, length-append, rules}
 use Rattle.std.specs.Prelude.{Option, Some, None, slice_get, Contains}
 use Rattle.std.specs.List.{flat_map, list_any}
@@ -24,6 +24,9 @@ in_flat_map f (z ∷ zs) (suc i) x y at has = behind (f z) (flat_map f zs) y (in
 -- labels that the test takes as equal are equal
 pub told_same : (a b : Label) → same_label a b ≡ true → a ≡ b
 told_same a b e = search rules
+
+pub same_self : (l : Label) → same_label l l ≡ true
+same_self l = search rules
 
 -- a due that passes the test is there
 pub told_due : (l : Label) (due : Option Label) → is_due l due ≡ true → due ≡ Some l

@@ -1,15 +1,12 @@
 -- What the laws of steps and starts say of two spawns.
-use Rattle.std.proofs.Common.{◌≡◌, ◌≢◌, ℕ, Bool, true, false, List, refl, subst, rules}
+use Rattle.std.proofs.Common.{◌≡◌, ◌≢◌, ℕ, Bool, true, false, List, refl, subst}
 use Rattle.std.specs.Prelude.{Option, Some, None, IfSome, slice_get, ◌||◌}
 use Rattle.app_core.specs.declared.label.Label.{Label}
 use Rattle.app_core.specs.declared.outline.Outline.{Outline}
 use Rattle.app_core.specs.Outlines.{same_label, is_due, has_due, has_need, gives, named, IsDueOnce, IsNeededOnce, IsNeededNever, IsSeenToOnce, Names}
 use Rattle.app_core.specs.Spawns.{AreApart}
 use Rattle.app_core.proofs.CountLemmas.{some_is, none_passes, one_is_there, one_place}
-use Rattle.app_core.proofs.LabelLemmas.{in_flat_map, told_due, due_is_named, need_is_named}
-
-same_self : (l : Label) → same_label l l ≡ true
-same_self l = search rules
+use Rattle.app_core.proofs.LabelLemmas.{in_flat_map, same_self, told_due, due_is_named, need_is_named}
 
 -- either this is the due, or it isn't
 told_other : (l : Label) (due : Option Label) → is_due l due ≡ false → due ≢ Some l

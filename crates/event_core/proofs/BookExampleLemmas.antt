@@ -1,5 +1,5 @@
 -- The books of small runs, and what isn't one.
-use Rattle.std.proofs.Common.{◌≡◌, ℕ, zero, suc, ◌<◌, ◌≤◌, Bool, true, false, List, [], ◌∷◌, ◌++◌, length, refl, sym, ap, subst, ◌∙◌, inl, inr, arith}
+use Rattle.std.proofs.Common.{◌≡◌, ℕ, zero, suc, ◌<◌, ◌≤◌, Bool, true, false, List, [], ◌∷◌, ◌++◌, length, refl, ap, subst, ◌∙◌, inl, inr, arith}
 use Rattle.std.specs.Prelude.{if◌then◌else◌, ◌==◌, reverse, All, AllPairs, map}
 use Rattle.std.specs.List.{list_all}
 use Rattle.std.proofs.lemmas.Bool.{and_parts, eqb-true}
@@ -7,18 +7,16 @@ use Rattle.std.proofs.lemmas.List.Elements.{All-nil, All-cons}
 use Rattle.std.proofs.lemmas.List.Kept.{AllPairs-cons}
 use Rattle.event_lists.specs.declared.event.Event.{Event}
 use Rattle.event_lists.specs.declared.event.Event.TheVariants.{ReadHandled, ReadRan, ReadSubmitted, ReadSent, Enter, Leave, Receipt as Receives}
-use Rattle.event_lists.specs.declared.kind.Kind.{Kind}
-use Rattle.event_lists.specs.declared.kind.Kind.TheVariants.{Sends as sends, Handlings as handlings, Runs as runs}
-use Rattle.event_lists.specs.declared.kind.Reading.{Reading}
 use Rattle.event_lists.specs.declared.lane.LaneName.{LaneName}
 use Rattle.event_lists.specs.declared.mark.Mark.{Mark}
 use Rattle.event_lists.specs.declared.receipt.Row.{Row}
 use Rattle.event_lists.specs.Events.{main_of, part, same_lane}
-use Rattle.event_lists.specs.Fences.{Fences, reading}
+use Rattle.event_lists.specs.Fences.{Fences}
 use Rattle.event_lists.specs.Legal.{IsLane, Legal}
 use Rattle.event_lists.specs.FenceRuns.{by_main, first_run}
+use Rattle.event_lists.proofs.FenceRunLemmas.{no_run}
 use Rattle.event_lists.proofs.LaneLemmas.{same_lane_true}
-use Rattle.event_core.specs.Books.{PartData, IsBook, IsBefore, HasRows, HasParts, IsLawful, events_of}
+use Rattle.event_core.specs.Books.{PartData, IsBook, IsBefore, HasRows, HasParts, IsLawful}
 use Rattle.event_core.specs.BookExamples.{hand, of_two_ranks, nothing_counted, receipt_with, receiver, first_main, first_worker, second_main, first_bin, second_bin, in_order, AreNoBook, whole_run, exchanged_run, of_one_main, IsLawless}
 
 -- an event that is a receipt has so many rows
@@ -229,14 +227,6 @@ not_in_reverse (log, legal, parts) = out (came 1 0 log legal (main_of 0) later (
 
     out : ((before : List Mark) × Fences 1 before (main_of 0) [] (Leave 1)) → ⊥
     out (before, f) = let inside = f.0.2 in absurd (cc)
-
-kind_at : List Reading → Kind
-kind_at [] = sends
-kind_at (r ∷ rs) = r.kind
-
-no_run : (t : ℕ) (before : List Reading) → reading handlings 0 1 1 ∷ [] ≡ reading runs t 1 1 ∷ before → ⊥
-unfolding kind_at
-no_run t before e = let kinds : handlings ≡ runs = ap kind_at e in absurd (cc)
 
 pub not_exchanged : IsLawless (of_one_main exchanged_run)
 not_exchanged (log, legal, parts) = out (came 1 0 log legal (main_of 0) later (ReadSubmitted 0 1 1) (ReadHandled 0 1 1 ∷ (Enter 1 ∷ [])) (parts (main_of 0)))

@@ -1,10 +1,8 @@
 -- A book over two ranks and books of a run of one rank, each beside some that differ from it in one thing.
 use Rattle.std.specs.Prelude.{ℕ, true, false, List, [], ◌∷◌}
-use Rattle.event_lists.specs.declared.lane.LaneName.{LaneName}
 use Rattle.event_lists.specs.declared.event.Event.{Event}
 use Rattle.event_lists.specs.declared.event.Event.TheVariants.{TookTask, Put, ReadHandled, ReadRan, ReadSubmitted, ReadSent, Enter, Leave, Receipt as Receives}
 use Rattle.event_lists.specs.declared.receipt.Row.{Row}
-use Rattle.event_lists.specs.Events.{main_of}
 use Rattle.event_core.specs.Books.{PartData, BookData, IsBook, IsLawful}
 
 -- a hand and a bin of a rank, with its events

@@ -1,7 +1,7 @@
 -- The entries that lie in the bins at a receipt.
 use Rattle.std.proofs.Common.{◌≡◌, ◌⊎◌, ℕ, ◌<◌, Bool, true, false, not, ◌&&◌, ◌||◌, List, [], ◌∷◌, ◌++◌, refl, sym, ap, ◌∙◌, subst, inl, inr, ⊎_elim, append_assoc}
-use Rattle.std.specs.Prelude.{◌↔◌, if◌then◌else◌, ◌==◌, Some, slice_get}
-use Rattle.std.proofs.lemmas.Bool.{both_ways, or_cases, or_left, or_right, and_parts, and_from, cases_Bool, eqb-true, eq-eqb}
+use Rattle.std.specs.Prelude.{◌↔◌, if◌then◌else◌, Some, slice_get}
+use Rattle.std.proofs.lemmas.Bool.{both_ways, or_cases, or_left, or_right, and_parts, and_from, cases_Bool}
 use Rattle.app_core.specs.declared.label.Label.{Label}
 use Rattle.app_core.specs.declared.label.CellName.{CellName}
 use Rattle.app_core.specs.declared.outline.Outline.{Outline}
@@ -24,31 +24,12 @@ use Rattle.event_laws.specs.Held.{HasReceipt}
 use Rattle.event_laws.proofs.PositionLemmas.{goes_at, stands_at, at_stands, carried_begins}
 use Rattle.event_laws.proofs.SourceLemmas.{task_submitted}
 use Rattle.event_laws.proofs.EventEffectLemmas.{says_put, says_erase}
+use Rattle.event_laws.proofs.EntryLemmas.{same_name_true, same_name_refl, put_stands}
 use Rattle.event_laws.proofs.EffectMarkLemmas.{effect_at, effect_by, is_named, carried_here}
 use Rattle.event_laws.proofs.ParcelLemmas.{submitted_begins}
 use Rattle.event_laws.proofs.SettledFenceLemmas.{legal_now, follows_now, task_done, early_task}
 
-pub name_refl : (c : CellName) → same_name c c ≡ true
-name_refl c = and_from (c.version == c.version) (c.place == c.place) (eq-eqb c.version c.version refl) (eq-eqb c.place c.place refl)
-
-pub name_true : (a b : CellName) → same_name a b ≡ true → a ≡ b
-name_true a b e = let p = and_parts (a.version == b.version) (a.place == b.place) e in λ i. record { version = eqb-true a.version b.version p.0 i; place = eqb-true a.place b.place p.1 i }
-
--- a lane's last event of a name is a put only where it was put there
-pub put_stands : (l : LaneName) (c : CellName) (log : List Mark) → is_put c (part l log) ≡ true → StandsOn l (Put c) log
-put_stands l c [] e = absurd (let z : false ≡ true = e in cc)
-put_stands l c (x ∷ log) e = by_lane (λ h. put_stands l c log h) (same_lane x.lane l) refl e
-  where
-    by_event : (is_put c (part l log) ≡ true → StandsOn l (Put c) log) → x.lane ≡ l → (e : Event) → x.event ≡ e → is_put c (e ∷ part l log) ≡ true → StandsOn l (Put c) (x ∷ log)
-    by_event rec same (Put d) is h = ⊎_elim (λ t. inl (same, is ∙ ap Put (sym (name_true c d t)))) (λ f. inr (rec f)) (or_cases (same_name c d) (is_put c (part l log)) h)
-    by_event rec same (Erased d) is h = inr (rec (and_parts (not (same_name c d)) (is_put c (part l log)) h).1)
-    by_event rec same _ is h = inr (rec h)
-
-    by_lane : (is_put c (part l log) ≡ true → StandsOn l (Put c) log) → (b : Bool) → same_lane x.lane l ≡ b → is_put c (if b then x.event ∷ part l log else part l log) ≡ true → StandsOn l (Put c) (x ∷ log)
-    by_lane rec true s h = by_event rec (same_lane_true x.lane l s) x.event refl h
-    by_lane rec false s h = inr (rec h)
-
--- and it is one where it was put there and not erased
+-- a lane's last event of a name is a put where it was put there and not erased
 pub put_stays : (l : LaneName) (c : CellName) (log : List Mark) → StandsOn l (Put c) log → (StandsOn l (Erased c) log → ⊥) → is_put c (part l log) ≡ true
 put_stays l c [] s none = absurd s
 put_stays l c (x ∷ log) s none = by_lane (λ h. put_stays l c log h (λ e. none (inr e))) (same_lane x.lane l) refl
@@ -60,10 +41,10 @@ put_stays l c (x ∷ log) s none = by_lane (λ h. put_stays l c log h (λ e. non
     by_event : (StandsOn l (Put c) log → is_put c (part l log) ≡ true) → x.lane ≡ l → (e : Event) → x.event ≡ e → is_put c (e ∷ part l log) ≡ true
     by_event rec same (Put d) is = ⊎_elim
         (λ t. or_left (same_name c d) (is_put c (part l log)) t)
-        (λ f. or_right (same_name c d) (is_put c (part l log)) (rec (kept (Put d) s is (λ e. let z : d ≡ c = cc in both_ways (same_name c d) f (subst (λ (w : CellName). same_name c w ≡ true) (sym z) (name_refl c))))))
+        (λ f. or_right (same_name c d) (is_put c (part l log)) (rec (kept (Put d) s is (λ e. let z : d ≡ c = cc in both_ways (same_name c d) f (subst (λ (w : CellName). same_name c w ≡ true) (sym z) (same_name_refl c))))))
         (cases_Bool (same_name c d))
     by_event rec same (Erased d) is = ⊎_elim
-        (λ t. absurd (none (inl (same, is ∙ ap Erased (sym (name_true c d t))))))
+        (λ t. absurd (none (inl (same, is ∙ ap Erased (sym (same_name_true c d t))))))
         (λ f. and_from (not (same_name c d)) (is_put c (part l log)) (ap not f) (rec (kept (Erased d) s is (λ e. absurd (cc)))))
         (cases_Bool (same_name c d))
     by_event rec same _ is = rec (kept _ s is (λ e. absurd (cc)))
@@ -77,11 +58,11 @@ same_put l c y log no_put no_erase = go (same_lane y.lane l)
   where
     by_event : (e : Event) → y.event ≡ e → is_put c (e ∷ part l log) ≡ is_put c (part l log)
     by_event (Put d) is = ⊎_elim
-        (λ t. absurd (no_put (is ∙ ap Put (sym (name_true c d t)))))
+        (λ t. absurd (no_put (is ∙ ap Put (sym (same_name_true c d t)))))
         (λ f. ap (λ (b : Bool). b || is_put c (part l log)) f)
         (cases_Bool (same_name c d))
     by_event (Erased d) is = ⊎_elim
-        (λ t. absurd (no_erase (is ∙ ap Erased (sym (name_true c d t)))))
+        (λ t. absurd (no_erase (is ∙ ap Erased (sym (same_name_true c d t)))))
         (λ f. ap (λ (b : Bool). not b && is_put c (part l log)) f)
         (cases_Bool (same_name c d))
     by_event _ is = refl
@@ -121,12 +102,12 @@ module _ (ranks workers : ℕ) (program : List Doing) (task_effects : TaskEffect
           let legal = legal_begins ranks workers (z.0 ∷ z.1) log z.2 h.1 in
           let bins : Bins z.0.lane (part z.0.lane z.1) (Erased c) = subst (Bins z.0.lane (part z.0.lane z.1)) z.4 legal.0.bins in
           let was : is_put c (part l z.1) ≡ true = subst (λ (m : LaneName). is_put c (part m z.1) ≡ true) z.3 bins.1 in
-          once x log f l c (is ∙ ap Put (sym (name_true c d t))) (on_begins l (Put c) z.1 log (begins_tail z.0 z.1 log z.2) (put_stands l c z.1 was)))
+          once x log f l c (is ∙ ap Put (sym (same_name_true c d t))) (on_begins l (Put c) z.1 log (begins_tail z.0 z.1 log z.2) (put_stands l c z.1 was)))
           (λ t. rec (older (Put d) is (λ e. absurd (cc))) t)
           (or_cases (same_name c d) (is_put c (part l log)) p)
       by_event rec (Erased d) is p =
           let parts = and_parts (not (same_name c d)) (is_put c (part l log)) p in
-          rec (older (Erased d) is (λ e. let z : d ≡ c = cc in both_ways (not (same_name c d)) (ap not (subst (λ (w : CellName). same_name c w ≡ true) (sym z) (name_refl c))) parts.0)) parts.1
+          rec (older (Erased d) is (λ e. let z : d ≡ c = cc in both_ways (not (same_name c d)) (ap not (subst (λ (w : CellName). same_name c w ≡ true) (sym z) (same_name_refl c))) parts.0)) parts.1
       by_event rec _ is p = rec (older _ is (λ e. absurd (cc))) p
 
       by_lane : (StandsOn l (Erased c) log → is_put c (part l log) ≡ true → ⊥) → (b : Bool) → same_lane x.lane l ≡ b → is_put c (if b then x.event ∷ part l log else part l log) ≡ true → ⊥

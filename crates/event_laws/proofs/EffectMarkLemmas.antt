@@ -12,7 +12,7 @@ use Rattle.event_lists.specs.Events.{part, in_hand, Begins}
 use Rattle.event_lists.proofs.ListLemmas.{begins_refl, begins_more}
 use Rattle.event_laws.specs.Follows.{TaskEffects, Doing, FollowsBy, Goes, Acts, CarriesOut, effect_name, is_effect, carried_out}
 
-goes_before : (program : List Doing) (task_effects : TaskEffects) (more log : List Mark) → FollowsBy program task_effects (more ++ log) → FollowsBy program task_effects log
+pub goes_before : (program : List Doing) (task_effects : TaskEffects) (more log : List Mark) → FollowsBy program task_effects (more ++ log) → FollowsBy program task_effects log
 goes_before program task_effects [] log h = h
 goes_before program task_effects (x ∷ more) log h = goes_before program task_effects more log h.1
 

@@ -18,14 +18,14 @@ use Rattle.event_laws.specs.Apart.{EffectsApart, ErasesPut}
 use Rattle.event_laws.proofs.EventEffectLemmas.{says_put, says_erase}
 use Rattle.event_laws.proofs.PositionLemmas.{stands_at, goes_at, carried_at}
 
-same_name_true : (a b : CellName) → same_name a b ≡ true → a ≡ b
+pub same_name_true : (a b : CellName) → same_name a b ≡ true → a ≡ b
 same_name_true a b e = let p = and_parts (a.version == b.version) (a.place == b.place) e in λ i. record { version = eqb-true a.version b.version p.0 i; place = eqb-true a.place b.place p.1 i }
 
-same_name_refl : (a : CellName) → same_name a a ≡ true
+pub same_name_refl : (a : CellName) → same_name a a ≡ true
 same_name_refl a = and_from (a.version == a.version) (a.place == a.place) (eq-eqb a.version a.version refl) (eq-eqb a.place a.place refl)
 
 -- where the last event of a name is a put, the list has a put
-put_stands : (l : LaneName) (c : CellName) (log : List Mark) → is_put c (part l log) ≡ true → StandsOn l (Put c) log
+pub put_stands : (l : LaneName) (c : CellName) (log : List Mark) → is_put c (part l log) ≡ true → StandsOn l (Put c) log
 put_stands l c [] p = absurd (cc)
 put_stands l c (x ∷ log) p = go (put_stands l c log) (same_lane x.lane l) refl p
   where

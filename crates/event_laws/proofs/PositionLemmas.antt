@@ -1,16 +1,16 @@
 -- Where an event is in a list, which of two comes first, and what it met there.
-use Rattle.std.proofs.Common.{◌≡◌, ◌⊎◌, ℕ, true, ◌&&◌, List, [], ◌∷◌, ◌++◌, refl, sym, ap, ◌∙◌, subst, inl, inr, ⊎_elim}
-use Rattle.std.specs.Prelude.{◌==◌, Option, Some}
-use Rattle.std.proofs.lemmas.Bool.{and_from, eq-eqb, or_cases, or_left, or_right}
+use Rattle.std.proofs.Common.{◌≡◌, ◌⊎◌, ℕ, true, List, [], ◌∷◌, ◌++◌, refl, sym, ◌∙◌, subst, inl, inr, ⊎_elim}
+use Rattle.std.specs.Prelude.{Some}
+use Rattle.std.proofs.lemmas.Bool.{or_cases, or_left, or_right}
 use Rattle.event_lists.specs.declared.lane.LaneName.{LaneName}
 use Rattle.event_lists.specs.declared.event.Event.{Event}
-use Rattle.event_lists.specs.declared.mark.EffectName.{EffectName}
 use Rattle.event_lists.specs.declared.mark.Item.{Item}
 use Rattle.event_lists.specs.declared.mark.Mark.{Mark}
 use Rattle.event_lists.specs.Events.{Begins, StandsOn, part, is_item, takes, is_taken}
 use Rattle.event_lists.proofs.ListLemmas.{begins_refl, begins_more, begins_tail, on_begins}
 use Rattle.event_lists.proofs.ItemLemmas.{is_item_some}
 use Rattle.event_laws.specs.Follows.{TaskEffects, Doing, FollowsBy, Goes, effect_name, is_effect, carried_out}
+use Rattle.event_laws.proofs.EffectMarkLemmas.{goes_before, is_named}
 
 -- the last event of a list, or one of the rest
 pub begins_cons : (x z : Mark) (before log : List Mark) → Begins (x ∷ before) (z ∷ log) → ((z ≡ x) × (log ≡ before)) ⊎ Begins (x ∷ before) log
@@ -52,10 +52,6 @@ pub at_stands : (x : Mark) (before log : List Mark) → Begins (x ∷ before) lo
 at_stands x before log b = on_begins x.lane x.event (x ∷ before) log b (inl (refl, refl))
 
 -- each event of a list that follows goes on from the list before it
-goes_before : (program : List Doing) (task_effects : TaskEffects) (more log : List Mark) → FollowsBy program task_effects (more ++ log) → FollowsBy program task_effects log
-goes_before program task_effects [] log h = h
-goes_before program task_effects (x ∷ more) log h = goes_before program task_effects more log h.1
-
 pub follows_begins : (program : List Doing) (task_effects : TaskEffects) (old log : List Mark) → Begins old log → FollowsBy program task_effects log → FollowsBy program task_effects old
 follows_begins program task_effects old log b h = goes_before program task_effects b.0 old (subst (FollowsBy program task_effects) b.1 h)
 
@@ -77,9 +73,6 @@ carried_grows r n i (x ∷ more) log t = or_right (is_effect r n i x.effect) (ca
 pub carried_begins : (r n i : ℕ) (old log : List Mark) → Begins old log → carried_out r n i old ≡ true → carried_out r n i log ≡ true
 carried_begins r n i old log b t = subst (λ (z : List Mark). carried_out r n i z ≡ true) (sym b.1) (carried_grows r n i b.0 old t)
 
-effect_is : (r n i : ℕ) (f : Option EffectName) → f ≡ Some (effect_name r n i) → is_effect r n i f ≡ true
-effect_is r n i f e = ap (is_effect r n i) e ∙ and_from (r == r) ((n == n) && (i == i)) (eq-eqb r r refl) (and_from (n == n) (i == i) (eq-eqb n n refl) (eq-eqb i i refl))
-
 -- the effect that an event names is carried out
 pub carried_at : (r n i : ℕ) (x : Mark) (before log : List Mark) → Begins (x ∷ before) log → x.effect ≡ Some (effect_name r n i) → carried_out r n i log ≡ true
-carried_at r n i x before log b e = carried_begins r n i (x ∷ before) log b (or_left (is_effect r n i x.effect) (carried_out r n i before) (effect_is r n i x.effect e))
+carried_at r n i x before log b e = carried_begins r n i (x ∷ before) log b (or_left (is_effect r n i x.effect) (carried_out r n i before) (is_named r n i x.effect e))

@@ -1,5 +1,5 @@
 -- Lemmas that crates above use: where the labels of units form a tree, no two spawns have one unit label.
-use Rattle.std.proofs.Common.{◌≡◌, ℕ, zero, suc, ◌+◌, ◌≤◌, Bool, true, false, List, [], ◌∷◌, ◌++◌, refl, sym, ap, ◌∙◌, subst, ⊎_elim, arith}
+use Rattle.std.proofs.Common.{◌≡◌, ℕ, ◌+◌, ◌≤◌, Bool, true, false, List, [], ◌∷◌, ◌++◌, refl, sym, ap, ◌∙◌, subst, ⊎_elim, arith}
 use Rattle.std.specs.Prelude.{if◌then◌else◌, ◌==◌, Option, Some, None, slice_get}
 use Rattle.std.specs.Option.{option_to_list}
 use Rattle.std.proofs.lemmas.Bool.{both_ways, eqb-true, or_cases}
@@ -13,47 +13,29 @@ use Rattle.event_lists.specs.declared.mark.Item.{Item}
 use Rattle.event_lists.specs.declared.mark.Item.TheVariants.{Message, Task}
 use Rattle.event_lists.specs.declared.mark.Mark.{Mark}
 use Rattle.event_lists.specs.declared.kind.Kind.TheVariants.{Submissions as submissions}
-use Rattle.event_lists.specs.Events.{main_of, Begins, part, same_lane, in_hand, is_item, takes, is_taken, IsSubmitted}
+use Rattle.event_lists.specs.Events.{main_of, Begins, part, in_hand, is_item, takes, is_taken, IsSubmitted}
 use Rattle.event_lists.specs.Counting.{Counting, MaySpawn, MaySubmit}
 use Rattle.event_lists.specs.Legal.{Legal}
 use Rattle.event_lists.proofs.LaneLemmas.{part_own}
 use Rattle.event_lists.proofs.ListLemmas.{legal_begins, begins_refl, begins_trans, begins_tail, on_begins}
 use Rattle.event_lists.proofs.CountLemmas.{same_event}
 use Rattle.event_lists.proofs.ItemLemmas.{is_item_some}
-use Rattle.event_laws.specs.Follows.{TaskEffects, Doing, Start, Wait, waits, program_at, is_done, deeds, Says, CarriesOut, Acts, Goes, IsRun, carried_out}
+use Rattle.event_laws.specs.Follows.{TaskEffects, Doing, Start, waits, program_at, is_done, deeds, Says, CarriesOut, Acts, Goes, IsRun, carried_out}
 use Rattle.event_laws.specs.Trees.{unit_of, LabelsAreTree}
 use Rattle.event_laws.specs.Apart.{spawn_label, spawned, Apart}
 use Rattle.event_laws.proofs.EventEffectLemmas.{label_is}
+use Rattle.event_laws.proofs.MainLemmas.{deeds_grow, no_starts}
 use Rattle.event_laws.proofs.PositionLemmas.{goes_at, carried_at}
 use Rattle.event_laws.proofs.SpawnLemmas.{Spawns, spawn_in, same_task}
-
--- only rank 0's main has starts
-no_start : (ds : List Doing) (k : ℕ) (o : Outline) → slice_get (waits ds) k ≡ Some (Start o) → ⊥
-no_start [] k o e = cc
-no_start (Start p ∷ ds) k o e = no_start ds k o e
-no_start (Wait ∷ ds) zero o e = cc
-no_start (Wait ∷ ds) (suc k) o e = no_start ds k o e
 
 pub start_at : (r k : ℕ) (program : List Doing) (o : Outline) → slice_get (program_at r program) k ≡ Some (Start o) → (r ≡ 0) × (slice_get program k ≡ Some (Start o))
 start_at r k program o e = go (r == 0) refl e
   where
     go : (b : Bool) → (r == 0) ≡ b → slice_get (if b then program else waits program) k ≡ Some (Start o) → (r ≡ 0) × (slice_get program k ≡ Some (Start o))
     go true i e = (eqb-true r 0 i, e)
-    go false i e = absurd (no_start program k o e)
+    go false i e = absurd (no_starts program k o e)
 
 -- the deeds of a main only grow
-deeds_grow : (l : LaneName) (more log : List Mark) → deeds (part l log) ≤ deeds (part l (more ++ log))
-deeds_grow l [] log = omega arith
-deeds_grow l (x ∷ more) log = step (same_lane x.lane l) (deeds_grow l more log)
-  where
-    bit : (b : Bool) (n k : ℕ) → n ≤ k → n ≤ (if b then 1 else 0) + k
-    bit true n k e = omega arith
-    bit false n k e = omega arith
-
-    step : (b : Bool) → deeds (part l log) ≤ deeds (part l (more ++ log)) → deeds (part l log) ≤ deeds (if b then x.event ∷ part l (more ++ log) else part l (more ++ log))
-    step true e = bit (is_done (in_hand (part l (more ++ log))) x.event) _ _ e
-    step false e = e
-
 deeds_begin : (l : LaneName) (old log : List Mark) → Begins old log → deeds (part l old) ≤ deeds (part l log)
 deeds_begin l old log b = subst (λ (z : List Mark). deeds (part l old) ≤ deeds (part l z)) (sym b.1) (deeds_grow l b.0 old)
 

@@ -1,5 +1,5 @@
--- The lists of small runs, one event after another.
-use Rattle.std.proofs.Common.{◌≡◌, ℕ, suc, ◌<◌, List, [], ◌∷◌, refl, ap, subst, inl, arith}
+-- Lemmas that crates above use: the lists of small runs, one event after another.
+use Rattle.std.proofs.Common.{◌≡◌, ℕ, suc, ◌+◌, ◌<◌, List, [], ◌∷◌, refl, sym, ◌∙◌, ap, subst, inl, arith}
 use Rattle.std.specs.Prelude.{Some, slice_get}
 use Rattle.event_lists.specs.declared.event.Event.TheVariants.{ReadHandled, ReadRan, ReadSubmitted, Enter, Receipt as Receives}
 use Rattle.event_lists.specs.declared.receipt.Row.{Row}
@@ -8,7 +8,7 @@ use Rattle.event_lists.specs.declared.kind.Kind.{Kind}
 use Rattle.event_lists.specs.declared.kind.Kind.TheVariants.{Sends as sends, Handlings as handlings, Submissions as submissions, Runs as runs}
 use Rattle.event_lists.specs.Events.{part, main_of}
 use Rattle.event_lists.specs.declared.kind.Reading.{Reading}
-use Rattle.event_lists.specs.Fences.{reading, row_of, IsComplete, IsReady}
+use Rattle.event_lists.specs.Fences.{reading, row_of, sent_in, handled_in, IsComplete, IsReady, Receivable}
 use Rattle.event_lists.specs.Legal.{Legal, Illegal}
 use Rattle.event_lists.specs.FenceRuns.{by_main, empty_receipt, one_pass, two_passes, first_run, second_run, one_reading, third_run}
 
@@ -83,27 +83,29 @@ legal_passes = (
   legal_submitted_again,
 )
 
+-- on one rank the first fence may have a receipt once two passes have this row, in which as many messages were handled as sent
+pub receivable_one :
+    (log : List Mark) (row : Row) →
+    row.sent ≡ row.handled →
+    row_of 1 1 (part (main_of 0) log) ≡ Some row →
+    row_of 1 2 (part (main_of 0) log) ≡ Some row →
+    Receivable 1 log (record { fence = 1; pass = 2; rows = row ∷ [] })
+receivable_one log row even first second = (
+  0,
+  refl,
+  complete_one 1 1 log row first,
+  complete_one 1 2 log row second,
+  record {
+    first = ap (λ r. sent_in r + 0) first ∙ ap (λ n. n + 0) even ∙ sym (ap (λ r. handled_in r + 0) first);
+    sent_again = ap (λ r. sent_in r + 0) (second ∙ sym first);
+    handled_again = ap (λ r. handled_in r + 0) (second ∙ sym first);
+  },
+  (refl, each_rank (λ q. row_of 1 2 (part (main_of q) log) ≡ slice_get (row ∷ []) q) second),
+)
+
 legal_receipt : Legal 1 0 (by_main (Receives (empty_receipt 2)) ∷ two_passes)
 legal_receipt = (
-  record {
-    named = (omega arith, omega arith);
-    counting = tt;
-    dues = tt;
-    fences = (
-      refl,
-      (refl, refl, refl),
-      refl,
-      (
-        0,
-        refl,
-        complete_one 1 1 two_passes none refl,
-        complete_one 1 2 two_passes none refl,
-        record { first = refl; sent_again = refl; handled_again = refl },
-        (refl, each_rank (λ q. row_of 1 2 (part (main_of q) two_passes) ≡ slice_get (none ∷ []) q) refl),
-      ),
-    );
-    bins = refl;
-  },
+  record { named = (omega arith, omega arith); counting = tt; dues = tt; fences = (refl, (refl, refl, refl), refl, receivable_one two_passes none refl refl refl); bins = refl },
   legal_passes,
 )
 
@@ -121,7 +123,8 @@ kind_at : List Reading → Kind
 kind_at [] = sends
 kind_at (r ∷ rs) = r.kind
 
-no_run : (t : ℕ) (before : List Reading) → reading handlings 0 1 1 ∷ [] ≡ reading runs t 1 1 ∷ before → ⊥
+-- a reading of handled isn't one of ran
+pub no_run : (t : ℕ) (before : List Reading) → reading handlings 0 1 1 ∷ [] ≡ reading runs t 1 1 ∷ before → ⊥
 unfolding kind_at
 no_run t before e = let kinds : handlings ≡ runs = ap kind_at e in absurd (cc)
 

@@ -1,5 +1,6 @@
 -- Lemmas that crates above use: labels and futures, and that dues, needs and gives last.
-use Rattle.std.proofs.Common.{◌≡◌, ℕ, Bool, true, false, ◌&&◌, List, [], ◌∷◌, refl, sym, ap, ◌∙◌, subst, ◌++◌, ◌≤◌, arith}
+pub use Rattle.app_core.proofs.LabelLemmas.{told_same as same_label_true, same_self as same_label_refl}
+use Rattle.std.proofs.Common.{◌≡◌, ℕ, Bool, true, false, List, [], ◌∷◌, refl, sym, ap, ◌∙◌, subst, ◌++◌, ◌≤◌, arith}
 use Rattle.std.specs.Prelude.{if◌then◌else◌, ◌==◌, Option, Some, None}
 use Rattle.std.proofs.lemmas.Bool.{and_parts, and_from, eqb-true, eq-eqb}
 use Rattle.app_core.specs.declared.label.Label.{Label}
@@ -14,15 +15,6 @@ use Rattle.event_lists.specs.Futures.{same_bringer, same_future, is_future, brin
 use Rattle.event_lists.specs.Legal.{Legal}
 use Rattle.event_lists.proofs.ItemLemmas.{is_item_some, new_item, made_grows}
 
-pub same_label_true : (a b : Label) → same_label a b ≡ true → a ≡ b
-same_label_true a b e =
-    let p = and_parts ((a.command == b.command) && (a.part == b.part)) (a.place == b.place) e in
-    let q = and_parts (a.command == b.command) (a.part == b.part) p.0 in
-    λ i. record { command = eqb-true a.command b.command q.0 i; part = eqb-true a.part b.part q.1 i; place = eqb-true a.place b.place p.1 i }
-
-pub same_label_refl : (a : Label) → same_label a a ≡ true
-same_label_refl a = and_from _ (a.place == a.place) (and_from (a.command == a.command) (a.part == a.part) (eq-eqb a.command a.command refl) (eq-eqb a.part a.part refl)) (eq-eqb a.place a.place refl)
-
 pub same_bringer_true : (a b : Bringer) → same_bringer a b ≡ true → a ≡ b
 same_bringer_true (task_of r n) (task_of q m) e = let p = and_parts (r == q) (n == m) e in λ i. task_of (eqb-true r q p.0 i) (eqb-true n m p.1 i)
 same_bringer_true (main_at r) (main_at q) e = λ i. main_at (eqb-true r q e i)
@@ -33,7 +25,7 @@ pub same_bringer_refl : (a : Bringer) → same_bringer a a ≡ true
 same_bringer_refl (task_of r n) = and_from (r == r) (n == n) (eq-eqb r r refl) (eq-eqb n n refl)
 same_bringer_refl (main_at r) = eq-eqb r r refl
 
-same_future_true : (f g : Future) → same_future f g ≡ true → f ≡ g
+pub same_future_true : (f g : Future) → same_future f g ≡ true → f ≡ g
 same_future_true f g e =
     let p = and_parts (same_bringer f.by g.by) (same_label f.label g.label) e in
     λ i. record { by = same_bringer_true f.by g.by p.0 i; label = same_label_true f.label g.label p.1 i }
@@ -42,7 +34,7 @@ pub is_future_some : (f : Future) (o : Option Future) → is_future f o ≡ true
 is_future_some f None e = absurd (cc)
 is_future_some f (Some g) e = ap Some (sym (same_future_true f g e))
 
-same_future_refl : (f : Future) → same_future f f ≡ true
+pub same_future_refl : (f : Future) → same_future f f ≡ true
 same_future_refl f = and_from (same_bringer f.by f.by) (same_label f.label f.label) (same_bringer_refl f.by) (same_label_refl f.label)
 
 pub some_is_future : (f : Future) (o : Option Future) → o ≡ Some f → is_future f o ≡ true

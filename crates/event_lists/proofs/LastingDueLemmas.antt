@@ -1,7 +1,7 @@
 -- A due is kept until it is given: it has an owner, or was given.
 use Rattle.std.proofs.Common.{◌≡◌, ◌⊎◌, ℕ, ◌+◌, ◌≤◌, Bool, true, false, not, List, [], ◌∷◌, refl, sym, ap, ◌∙◌, subst, inl, inr, ⊎_elim, arith}
 use Rattle.std.specs.Prelude.{if◌then◌else◌, Option, Some, None}
-use Rattle.std.proofs.lemmas.Bool.{and_from, cases_Bool, both_ways, or_from, false_from_ne_true}
+use Rattle.std.proofs.lemmas.Bool.{and_from, cases_Bool, both_ways, or_from}
 use Rattle.app_core.specs.declared.label.Label.{Label}
 use Rattle.app_core.specs.Outlines.{same_label, is_due}
 use Rattle.event_lists.specs.declared.lane.LaneName.{LaneName}
@@ -19,7 +19,7 @@ use Rattle.event_lists.specs.Dues.{Dues, HasPassedOn}
 use Rattle.event_lists.specs.Legal.{Legal}
 use Rattle.event_lists.proofs.CountLemmas.{one_if}
 use Rattle.event_lists.proofs.LaneLemmas.{same_lane_true, part_own}
-use Rattle.event_lists.proofs.ItemLemmas.{is_item_some, some_is_item, new_item, taken_made}
+use Rattle.event_lists.proofs.ItemLemmas.{is_item_some, some_is_item, new_item, untaken_new}
 use Rattle.event_lists.proofs.WaitingLemmas.{Holds, waiting, made_waits, hand_waits}
 use Rattle.event_lists.proofs.OwnerLemmas.{Keeps, Owns}
 use Rattle.event_lists.proofs.FutureLemmas.{same_label_true, same_label_refl, some_is_future}
@@ -44,7 +44,7 @@ new_owner : (ranks workers : ℕ) (f : Future) (log : List Mark) (x : Mark) → 
     → due_made x.lane.rank (in_hand (part x.lane log)) (own_due (in_hand (part x.lane log)) log) x.event ≡ Some f → Owns f (x ∷ log) c
 new_owner ranks workers f log x h c m is = record {
   due = ap (λ (b : Bool). if b then due_made x.lane.rank (in_hand (part x.lane log)) (own_due (in_hand (part x.lane log)) log) x.event else due_of c log) (some_is_item c (makes x.lane.rank x.event) m) ∙ is;
-  still = inl (or_from (is_item c (takes x.event)) (is_taken c log) (ap (is_item c) (makes_takes x.lane.rank x.event c m)) (false_from_ne_true (is_taken c log) (λ t. absurd (omega (arith, taken_made ranks workers log h.1 c t, new_item ranks workers log x h c m)))));
+  still = inl (or_from (is_item c (takes x.event)) (is_taken c log) (ap (is_item c) (makes_takes x.lane.rank x.event c m)) (untaken_new ranks workers log x h c m));
 }
 
 takes_hand : (e : Event) (h : Option Item) (c : Item) → takes e ≡ Some c → hand_after e h ≡ Some c

@@ -1,6 +1,6 @@
 -- Small runs, each with an event that may come next and with one that may not, one event after another.
 use Rattle.std.proofs.Common.{◌≡◌, ℕ, ◌<◌, ◌≤◌, ◌||◌, Bool, true, false, List, [], ◌∷◌, refl, ap, inl, inr, arith}
-use Rattle.std.specs.Prelude.{Some, None, slice_get}
+use Rattle.std.specs.Prelude.{Some, None}
 use Rattle.app_core.specs.declared.label.Label.{Label}
 use Rattle.app_core.specs.Needs.{AreDistinct}
 use Rattle.app_core.specs.Outlines.{same_label}
@@ -8,12 +8,12 @@ use Rattle.event_lists.specs.declared.event.Event.TheVariants.{Ran, ReadHandled,
 use Rattle.event_lists.specs.declared.receipt.Row.{Row}
 use Rattle.event_lists.specs.declared.kind.Kind.TheVariants.{Sends as sends, Handlings as handlings, Submissions as submissions, Runs as runs}
 use Rattle.event_lists.specs.declared.kind.Reading.{Reading}
-use Rattle.event_lists.specs.Events.{part, main_of}
-use Rattle.event_lists.specs.Fences.{reading, row_of, MayOpen}
+use Rattle.event_lists.specs.Events.{main_of}
+use Rattle.event_lists.specs.Fences.{reading, MayOpen}
 use Rattle.event_lists.specs.Legal.{Legal}
 use Rattle.event_lists.specs.TaskRuns.{label, giver, main_does}
 use Rattle.event_lists.specs.RefusedRuns.{Accepts, Refuses, sends_to, with_needs, submits, one_task, hand_takes, puts_in, one_need, need_and_due, giver_in_hand, task_in_hand, spawned_a_need, spawned_its_due, in_a_fence, at_work, two_readings, found_different, found_equal, ran_then, passed_once, passed_twice, received, leaves}
-use Rattle.event_lists.proofs.FenceRunLemmas.{each_rank, complete_one, ready_first, ready_second}
+use Rattle.event_lists.proofs.FenceRunLemmas.{ready_first, ready_second, receivable_one}
 
 none_distinct : AreDistinct []
 none_distinct i j d lt within = absurd (omega arith)
@@ -351,25 +351,7 @@ legal_twice = (
 
 legal_received : Legal 1 0 received
 legal_received = (
-  record {
-    named = (omega arith, omega arith);
-    counting = tt;
-    dues = tt;
-    fences = (
-      refl,
-      (refl, refl, refl),
-      refl,
-      (
-        0,
-        refl,
-        complete_one 1 1 passed_twice one_ran refl,
-        complete_one 1 2 passed_twice one_ran refl,
-        record { first = refl; sent_again = refl; handled_again = refl },
-        (refl, each_rank (λ q. row_of 1 2 (part (main_of q) passed_twice) ≡ slice_get (one_ran ∷ []) q) refl),
-      ),
-    );
-    bins = refl;
-  },
+  record { named = (omega arith, omega arith); counting = tt; dues = tt; fences = (refl, (refl, refl, refl), refl, receivable_one passed_twice one_ran refl refl refl); bins = refl },
   legal_twice,
 )
 

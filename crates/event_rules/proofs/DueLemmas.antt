@@ -3,25 +3,23 @@ use Rattle.std.proofs.Common.{◌≡◌, ◌↔◌, ◌⊎◌, ℕ, true, false,
 use Rattle.std.specs.Prelude.{List, Option, Some, None}
 use Rattle.app_core.specs.declared.label.Label.{Label}
 use Rattle.event_lists.specs.declared.lane.LaneName.{LaneName}
-use Rattle.event_lists.specs.declared.event.Event.TheVariants.{Submitted, Gave}
+use Rattle.event_lists.specs.declared.event.Event.TheVariants.{Gave}
 use Rattle.event_lists.specs.declared.event.Parcel.{Parcel}
 use Rattle.event_lists.specs.declared.event.Parcel.TheVariants.{Give}
-use Rattle.event_lists.specs.declared.event.TaskName.{TaskName}
 use Rattle.event_lists.specs.declared.future.Bringer.{Bringer}
 use Rattle.event_lists.specs.declared.future.Future.{Future}
-use Rattle.event_lists.specs.declared.kind.Kind.TheVariants.{Submissions as submissions}
 use Rattle.event_lists.specs.declared.mark.Item.{Item}
 use Rattle.event_lists.specs.declared.mark.Item.TheVariants.{Message, Task}
 use Rattle.event_lists.specs.declared.mark.Mark.{Mark}
 use Rattle.event_lists.specs.Counting.{MaySpawn}
-use Rattle.event_lists.specs.Events.{part, in_hand, count}
+use Rattle.event_lists.specs.Events.{part, in_hand}
 use Rattle.event_lists.specs.Futures.{is_own, is_kept, is_fresh, own_due}
 use Rattle.event_lists.specs.Dues.{Carries, DueIsFree, KeepsDue, WasNoDue}
 use Rattle.event_lists.proofs.FutureLemmas.{own_label}
 use Rattle.event_rules.specs.declared.values.LaneState.{LaneState}
 use Rattle.event_rules.specs.Asks.{Asks}
 use Rattle.event_rules.specs.Shown.{ShowsLane}
-use Rattle.event_rules.specs.States.{HasTask, KeepsOwn, MayCarry, SpawnsFreely}
+use Rattle.event_rules.specs.States.{HasTask, KeepsOwn, MayCarry}
 
 -- with a task in hand it is shown for the label of its due whether it keeps it
 kept_shown : (log : List Mark) (l : LaneName) (s : LaneState) → ShowsLane log l s → (r n : ℕ) → s.hand ≡ Some (Task r n) → (d : Label) → is_own d s.own ≡ true → s.keeps ≡ is_kept d (part l log)

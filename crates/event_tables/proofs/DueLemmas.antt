@@ -1,26 +1,17 @@
 -- What an event doesn't change: the dues of what was made.
-use Rattle.std.proofs.Common.{◌≡◌, ℕ, ◌≤◌, Bool, true, false, List, [], ◌∷◌, refl, ap, ⊎_elim, arith}
+use Rattle.std.proofs.Common.{◌≡◌, ℕ, Bool, true, false, List, [], ◌∷◌, refl, ap, arith}
 use Rattle.std.specs.Prelude.{if◌then◌else◌, Option, Some, None}
-use Rattle.std.proofs.lemmas.Bool.{or_cases}
 use Rattle.event_lists.specs.declared.lane.LaneName.{LaneName}
 use Rattle.event_lists.specs.declared.event.Event.{Event}
 use Rattle.event_lists.specs.declared.event.Event.TheVariants.{Sent, Submitted}
 use Rattle.event_lists.specs.declared.mark.Item.{Item}
 use Rattle.event_lists.specs.declared.mark.Mark.{Mark}
-use Rattle.event_lists.specs.Events.{part, in_hand, is_item, makes, takes, times_made, is_taken}
+use Rattle.event_lists.specs.Events.{part, in_hand, is_item, makes, is_taken}
 use Rattle.event_lists.specs.Futures.{due_made, due_of, own_due}
 use Rattle.event_lists.specs.Legal.{Legal}
-use Rattle.event_lists.proofs.ItemLemmas.{is_item_some, new_item, took_fresh}
+use Rattle.event_lists.proofs.ItemLemmas.{is_item_some, new_item, taken_made}
 use Rattle.event_lists.proofs.HandLemmas.{hand_taken}
 use Rattle.event_rules.specs.Shown.{load_made, load_of}
-
--- what was taken was made
-pub taken_made : (ranks workers : ℕ) (log : List Mark) → Legal ranks workers log → (c : Item) → is_taken c log ≡ true → 1 ≤ times_made c log
-taken_made ranks workers [] h c t = absurd (cc)
-taken_made ranks workers (x ∷ log) h c t = ⊎_elim
-    (λ here. omega (arith, (took_fresh c x.event ranks log x.lane (part x.lane log) h.0.counting (is_item_some c (takes x.event) here)).0))
-    (λ before. omega (arith, taken_made ranks workers log h.1 c before))
-    (or_cases (is_item c (takes x.event)) (is_taken c log) t)
 
 -- what was taken isn't made now
 pub taken_old : (ranks workers : ℕ) (log : List Mark) (x : Mark) → Legal ranks workers (x ∷ log) → (c : Item) → is_taken c log ≡ true → is_item c (makes x.lane.rank x.event) ≡ false

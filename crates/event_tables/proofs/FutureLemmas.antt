@@ -7,7 +7,8 @@ use Rattle.event_rules.specs.declared.values.Found.{Found}
 use Rattle.event_tables.specs.declared.table.Table.{Table}
 use Rattle.event_tables.specs.Tables.{value_at}
 use Rattle.event_tables.specs.Futures.{with_more}
-use Rattle.event_tables.proofs.NameLemmas.{same_future_true, same_future_sym}
+use Rattle.event_lists.proofs.FutureLemmas.{same_future_true}
+use Rattle.event_tables.proofs.NameLemmas.{same_future_sym}
 
 -- the value of one key, changed
 pub added : (old new : Table Future Found) (key : Future) (due needed given : Bool) (v : Found) → v ≡ with_more (value_at same_future old key) due needed given

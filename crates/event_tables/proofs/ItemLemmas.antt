@@ -1,5 +1,5 @@
 -- One more event in what is known of messages and tasks.
-use Rattle.std.proofs.Common.{◌≡◌, ℕ, Bool, true, false, ◌||◌, List, ◌∷◌, refl, sym, ap, ◌∙◌, subst, arith}
+use Rattle.std.proofs.Common.{◌≡◌, ℕ, Bool, true, false, ◌||◌, List, ◌∷◌, refl, sym, ap, ◌∙◌, subst}
 use Rattle.std.specs.Prelude.{if◌then◌else◌, Option, Some, None}
 use Rattle.std.proofs.lemmas.Bool.{both_ways, false_from_ne_true}
 use Rattle.event_lists.specs.declared.event.Event.{Event}
@@ -10,7 +10,7 @@ use Rattle.event_lists.specs.declared.mark.Mark.{Mark}
 use Rattle.event_lists.specs.Events.{part, in_hand, same_item, is_item, makes, takes, is_taken}
 use Rattle.event_lists.specs.Futures.{bringer, due_made, due_of, own_due}
 use Rattle.event_lists.specs.Legal.{Legal}
-use Rattle.event_lists.proofs.ItemLemmas.{same_item_true, same_item_refl, some_is_item, new_item, taken_here}
+use Rattle.event_lists.proofs.ItemLemmas.{same_item_true, same_item_refl, some_is_item, untaken_new, taken_here}
 use Rattle.event_rules.specs.declared.values.Load.{Load}
 use Rattle.event_rules.specs.declared.values.Made.{Made}
 use Rattle.event_rules.specs.declared.values.LaneState.{LaneState}
@@ -19,7 +19,6 @@ use Rattle.event_tables.specs.declared.table.Table.{Table}
 use Rattle.event_tables.specs.Items.{item_of, taken_once}
 use Rattle.event_tables.specs.Tables.{value_at}
 use Rattle.event_tables.specs.Contents.{KeepsItems}
-use Rattle.event_tables.proofs.DueLemmas.{taken_made}
 
 other_item : (c k : Item) → same_item k c ≡ false → same_item c k ≡ false
 other_item c k e = false_from_ne_true (same_item c k) (λ t. both_ways (same_item k c) e (subst (λ (z : Item). same_item k z ≡ true) (sym (same_item_true c k t)) (same_item_refl k)))
@@ -67,10 +66,6 @@ abbrev pub new_made : LaneState → ℕ → Event → Load → Made
 new_made s r e d = record { load = d; by = bringer r s.hand; due = due_made r s.hand s.own e; taken = false }
 
 module _ (ranks workers : ℕ) (log : List Mark) (x : Mark) (s : LaneState) (h : Legal ranks workers (x ∷ log)) (shown : ShowsLane log x.lane s) where
-  -- what is made wasn't made before, so it wasn't taken
-  not_taken : (c : Item) → makes x.lane.rank x.event ≡ Some c → is_taken c log ≡ false
-  not_taken c m = false_from_ne_true (is_taken c log) (λ t. absurd (omega (arith, taken_made ranks workers log h.1 c t, new_item ranks workers log x h c m)))
-
   made_shows : (c : Item) (d : Load) → makes x.lane.rank x.event ≡ Some c → takes x.event ≡ None → load_made x.event ≡ Some d → ShowsMade (x ∷ log) c (new_made s x.lane.rank x.event d)
   made_shows c d m t i =
       let yes = some_is_item c (makes x.lane.rank x.event) m in
@@ -79,7 +74,7 @@ module _ (ranks workers : ℕ) (log : List Mark) (x : Mark) (s : LaneState) (h :
         by = ap (bringer x.lane.rank) shown.hand ∙ sym (ap (λ (b : Bool). if b then bringer x.lane.rank (in_hand (part x.lane log)) else spawner_of c log) yes);
         due = ap (λ (o : Option Item). due_made x.lane.rank o s.own x.event) shown.hand ∙ ap (λ (o : Option Future). due_made x.lane.rank (in_hand (part x.lane log)) o x.event) shown.own
             ∙ sym (ap (λ (b : Bool). if b then due_made x.lane.rank (in_hand (part x.lane log)) (own_due (in_hand (part x.lane log)) log) x.event else due_of c log) yes);
-        taken = sym (ap (λ (o : Option Item). is_item c o || is_taken c log) t ∙ not_taken c m);
+        taken = sym (ap (λ (o : Option Item). is_item c o || is_taken c log) t ∙ untaken_new ranks workers log x h c m);
       }
 
   -- what is known of the message or task that an event makes or takes

@@ -19,7 +19,7 @@ use Rattle.event_lists.specs.Events.{part, in_hand}
 use Rattle.event_lists.specs.Futures.{same_bringer, bringer, is_bringer, spawned_due, spawned_needs, was_due}
 use Rattle.event_lists.specs.Dues.{NeedsAreDues}
 use Rattle.event_lists.specs.Legal.{Legal}
-use Rattle.event_lists.proofs.FutureLemmas.{same_label_true, same_label_refl}
+use Rattle.event_lists.proofs.FutureLemmas.{same_label_true, same_label_refl, same_bringer_true, same_bringer_refl}
 use Rattle.event_rules.specs.declared.values.LaneState.{LaneState}
 use Rattle.event_rules.specs.declared.values.Found.{Found}
 use Rattle.event_rules.specs.Listed.{on}
@@ -29,7 +29,7 @@ use Rattle.event_tables.specs.Tables.{value_at}
 use Rattle.event_tables.specs.Contents.{needed_by, lacking, KeepsFutures, max_events}
 use Rattle.event_tables.specs.Spawns.{is_spawn, spawner}
 use Rattle.event_tables.specs.Lacking.{KeepsLacks, meets, lacked}
-use Rattle.event_tables.proofs.NameLemmas.{same_label_sym, same_bringer_true, same_bringer_refl, same_bringer_sym}
+use Rattle.event_tables.proofs.NameLemmas.{same_label_sym, same_bringer_sym}
 use Rattle.event_tables.proofs.NeedLemmas.{Apart, needed_any, needed_apart}
 
 abbrev pub bit : Bool → ℕ

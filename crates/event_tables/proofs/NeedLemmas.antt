@@ -19,9 +19,8 @@ use Rattle.event_lists.specs.Events.{part, in_hand}
 use Rattle.event_lists.specs.Futures.{bringer, is_bringer, spawned_needs, own_due, was_needed}
 use Rattle.event_lists.specs.Dues.{Dues, SubmitsFreely, NeedsAreFree}
 use Rattle.event_lists.specs.Legal.{Legal}
-use Rattle.event_lists.proofs.FutureLemmas.{same_label_true}
+use Rattle.event_lists.proofs.FutureLemmas.{same_label_true, same_bringer_true}
 use Rattle.event_tables.specs.Contents.{needed_by}
-use Rattle.event_tables.proofs.NameLemmas.{same_bringer_true}
 
 -- a label was needed where it is in the list of needed labels
 pub needed_any : (b : Bringer) (d : Label) (log : List Mark) → was_needed b d log ≡ list_any (λ m. same_label d m) (needed_by b log)
