@@ -1,4 +1,4 @@
--- The lines of a compressed tree and of an inner product, and the line of a command that overflows.
+-- The lines of a compressed tree, of an inner product and of a tree's size, and the line of a command that overflows.
 use Rattle.std.specs.Prelude.{ℕ, List, ◌++◌, filter, codes, decimal}
 use Rattle.std.specs.Fmt.{signed_decimal}
 use Rattle.std.specs.List.{flat_map}
@@ -6,7 +6,7 @@ use Rattle.tree_key.specs.Keys.{Key, root}
 use Rattle.tree_model.specs.Nodes.{Form}
 use Rattle.tree_model.specs.Nodes.Form.{Reconstructed, Compressed}
 use Rattle.tree_model.specs.Products.{inner_product}
-use Rattle.tree_model.specs.Shapes.{keys, is_interior}
+use Rattle.tree_model.specs.Shapes.{keys, key_count, is_interior}
 use Rattle.tree_model.specs.Texts.{tree_lines}
 use Rattle.tree_model.specs.Trees.{Tree, box_sum, difference}
 
@@ -31,6 +31,10 @@ printed_lines Compressed name t = compressed_lines name t
 -- what `inner` writes: the two names, and the inner product of their trees
 abbrev pub inner_line : List ℕ → Tree → List ℕ → Tree → List ℕ
 inner_line name f other g = codes "inner " ++ name ++ codes " " ++ other ++ codes " " ++ signed_decimal (inner_product f g) ++ codes "\n"
+
+-- what `size` writes: the name, and the number of the keys of its tree
+abbrev pub size_line : List ℕ → Tree → List ℕ
+size_line name t = codes "size " ++ name ++ codes " " ++ decimal (key_count t.depth t.shape) ++ codes "\n"
 
 -- what a job ends with at its first command that overflows; commands are numbered from 1
 abbrev pub overflow_line : ℕ → List ℕ

@@ -1,15 +1,20 @@
 -- What the commands make of the trees that they read: a list of values and a shape each.
-use Rattle.std.specs.Prelude.{ℕ, Bool, not, ◌&&◌, ◌||◌, nat_le, map, ℤ, ◌+ℤ◌, ◌*ℤ◌}
+use Rattle.std.specs.Prelude.{ℕ, Bool, true, not, ◌&&◌, ◌||◌, nat_le, map, ℤ, ◌+ℤ◌, ◌*ℤ◌}
 use Rattle.std.specs.List.{list_any, zip}
-use Rattle.tree_key.specs.Keys.{Key}
+use Rattle.std.specs.Option.{option_map_or}
+use Rattle.tree_key.specs.Keys.{Key, parent}
 use Rattle.tree_model.specs.Functions.{is_value}
 use Rattle.tree_model.specs.Shapes.{is_key_of}
-use Rattle.tree_model.specs.Trees.{Tree}
+use Rattle.tree_model.specs.Trees.{Tree, is_constant}
 use Rattle.tree_model.specs.Products.{products}
 
 -- the same values, with all keys down to a level
 abbrev pub refined : ℕ → Tree → Tree
 refined level t = record t { shape = λ k. t.shape k || (is_key_of t.depth k && nat_le k.level level) }
+
+-- the same values, on the keys that are the root, or on whose parent's box the values aren't all the same
+abbrev pub coarsened : Tree → Tree
+coarsened t = record t { shape = λ k. is_key_of t.depth k && option_map_or (λ p. not (is_constant t p)) (parent k) true }
 
 -- the keys of either shape
 abbrev pub union : (Key → Bool) → (Key → Bool) → Key → Bool

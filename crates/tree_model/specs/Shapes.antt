@@ -1,5 +1,5 @@
 -- Shapes: finite sets of keys that are binary trees, each with its leaves.
-use Rattle.std.specs.Prelude.{◌≡◌, ℕ, ◌+◌, ◌^◌, Bool, true, false, ◌&&◌, not, nat_le, nat_lt, List, map}
+use Rattle.std.specs.Prelude.{◌≡◌, ℕ, ◌+◌, ◌^◌, Bool, true, false, ◌&&◌, not, nat_le, nat_lt, List, length, map, filter}
 use Rattle.std.specs.List.{flat_map, range_with_len}
 use Rattle.tree_key.specs.Keys.{Key, root, child}
 
@@ -20,6 +20,10 @@ pub record IsShape (depth : ℕ) (shape : Key → Bool) : Type 0 where
   pub root : shape root ≡ true
   pub parents : (k : Key) (right : Bool) → shape (child k right) ≡ true → shape k ≡ true
   pub children : (k : Key) → shape (child k true) ≡ shape (child k false)
+
+-- the number of the keys of a shape
+abbrev pub key_count : ℕ → (Key → Bool) → ℕ
+key_count depth shape = length (filter shape (keys depth))
 
 -- a key of the shape without children there
 abbrev pub is_leaf : (Key → Bool) → Key → Bool

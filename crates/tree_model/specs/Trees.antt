@@ -1,6 +1,7 @@
 -- Trees: a function as a list of its values at the cells of a depth, with a shape.
 use Rattle.std.specs.Prelude.{◌≡◌, ℕ, ◌^◌, ◌≤◌, Bool, true, false, List, [], ◌∷◌, length, take, drop, ℤ, pos, ◌+ℤ◌, ◌-ℤ◌}
-use Rattle.std.specs.List.{All, slice_get}
+use Rattle.std.specs.List.{All, list_all, slice_get}
+use Rattle.std.specs.Ordering.{int_eq}
 use Rattle.std.specs.Int.RustNames.{unsigned_abs}
 use Rattle.tree_key.specs.Keys.{Key, child, width, first_cell, InBox}
 use Rattle.tree_model.specs.Functions.{max_value}
@@ -32,6 +33,14 @@ box_values t k = take (width t.depth k) (drop (first_cell t.depth k) t.cells)
 
 abbrev pub box_sum : Tree → Key → ℤ
 box_sum t k = total (box_values t k)
+
+-- whether a list has one value throughout, and whether the values on the box of a key are all the same
+abbrev pub has_one_value : List ℤ → Bool
+has_one_value [] = true
+has_one_value (z ∷ zs) = list_all (int_eq z) zs
+
+abbrev pub is_constant : Tree → Key → Bool
+is_constant t k = has_one_value (box_values t k)
 
 -- the sum over the left half of a box less the sum over the right half
 abbrev pub difference : Tree → Key → ℤ

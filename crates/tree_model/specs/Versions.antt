@@ -3,10 +3,10 @@ use Rattle.std.specs.Prelude.{ℕ, Bool, true, false, List, Option, Some, None, 
 use Rattle.std.specs.Option.{option_map, option_map_or}
 use Rattle.tree_model.specs.Commands.{Command}
 use Rattle.tree_model.specs.Signatures.{writes}
-use Rattle.tree_model.specs.Commands.Command.{Project, Refine, Compress, Reconstruct, Add, Mul, Inner, Print, Fence}
+use Rattle.tree_model.specs.Commands.Command.{Project, Refine, Coarsen, Compress, Reconstruct, Add, Mul, Inner, Print, Size, Fence}
 use Rattle.tree_model.specs.Nodes.{Form}
 use Rattle.tree_model.specs.Nodes.Form.{Reconstructed, Compressed}
-use Rattle.tree_model.specs.Operations.{refined, weighted_sum, product, overflows}
+use Rattle.tree_model.specs.Operations.{refined, coarsened, weighted_sum, product, overflows}
 use Rattle.tree_model.specs.Project.{projected}
 use Rattle.tree_model.specs.Trees.{Tree}
 
@@ -49,6 +49,7 @@ read_two versions form left right = two_trees (read versions form left) (read ve
 abbrev pub written : ℕ → Versions → Command → Option Version
 written depth versions (Project name projection) = Some (record { form = Reconstructed; tree = projected depth projection })
 written depth versions (Refine name level) = option_map (λ t. record { form = Reconstructed; tree = refined level t }) (read versions Reconstructed name)
+written depth versions (Coarsen name) = option_map (λ t. record { form = Reconstructed; tree = coarsened t }) (read versions Reconstructed name)
 written depth versions (Compress name) = option_map (λ t. record { form = Compressed; tree = t }) (read versions Reconstructed name)
 written depth versions (Reconstruct name) = option_map (λ t. record { form = Reconstructed; tree = t }) (read versions Compressed name)
 written depth versions (Add name left_factor left right_factor right) =
@@ -56,6 +57,7 @@ written depth versions (Add name left_factor left right_factor right) =
 written depth versions (Mul name left right) = option_map (λ p. record { form = Reconstructed; tree = product p.0 p.1 }) (read_two versions Reconstructed left right)
 written depth versions (Inner left right) = None
 written depth versions (Print name) = None
+written depth versions (Size name) = None
 written depth versions Fence = None
 
 -- the newer version, where there is one, and else the one before

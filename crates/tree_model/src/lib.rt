@@ -3,6 +3,7 @@
 //! The definitions stand in `specs/`; this crate's functions are laws about them, each a contract with an empty body.
 #![tactic(auto)]
 
+mod coarsening_examples;
 mod examples;
 mod laws;
 mod operations;
