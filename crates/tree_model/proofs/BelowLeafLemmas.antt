@@ -40,17 +40,17 @@ contains_child leaf k right contains = record {
 leaf_here : (shape : Key → Bool) (k : Key) → shape k ≡ true → shape (child k false) ≡ false → HasLeafOver shape k
 leaf_here shape k is none = record { leaf = k; is = rw (is, none) refl; over = contains_self k }
 
-no_left_child : (depth : ℕ) (shape : Key → Bool) (k : Key) (right : Bool) → IsShape depth shape → shape (child k right) ≡ false → shape (child k false) ≡ false
+pub no_left_child : (depth : ℕ) (shape : Key → Bool) (k : Key) (right : Bool) → IsShape depth shape → shape (child k right) ≡ false → shape (child k false) ≡ false
 no_left_child depth shape k true is none = sym (is.children k) ∙ none
 no_left_child depth shape k false is none = none
 
 -- a key below the root is a child
-record IsChild (k : Key) : Type 0 where
-  above : Key
-  right : Bool
-  made : child above right ≡ k
+pub record IsChild (k : Key) : Type 0 where
+  pub above : Key
+  pub right : Bool
+  pub made : child above right ≡ k
 
-child_below_root : (k : Key) → 0 < k.level → IsChild k
+pub child_below_root : (k : Key) → 0 < k.level → IsChild k
 child_below_root k deep =
     let p : Key = record { level = k.level - 1; at = k.at / 2 } in
     let below : eqb k.level 0 ≡ false = ne_eqb k.level 0 (λ e. omega arith) in

@@ -57,7 +57,7 @@ box_sum_children t k above =
 abbrev pub Are : ℤ → List ℤ → Type 0
 Are value zs = AllByRecursion (λ z. z ≡ value) zs
 
-are_from_each : (value : ℤ) (zs : List ℤ) → ((i : ℕ) → i < length zs → get_or zs i (pos 0) ≡ value) → Are value zs
+pub are_from_each : (value : ℤ) (zs : List ℤ) → ((i : ℕ) → i < length zs → get_or zs i (pos 0) ≡ value) → Are value zs
 are_from_each value [] each = tt
 are_from_each value (z ∷ zs) each =
     (each 0 (omega arith), are_from_each value zs (λ i below. each (suc i) (omega arith)))

@@ -25,7 +25,7 @@ leaf_there shape k is =
     record { inside = tests.0; whole = not-true _ tests.1 }
 
 -- both children of a key are keys of a depth, or neither is
-twins : (depth : ℕ) (k : Key) → is_key_of depth (child k true) ≡ is_key_of depth (child k false)
+pub twins : (depth : ℕ) (k : Key) → is_key_of depth (child k true) ≡ is_key_of depth (child k false)
 twins depth k = ap (λ b. leb (k.level + 1) depth && b) (elim (cases_lt k.at (2 ^ k.level)) [
   | inl low ↦ lt-ltb _ _ (omega (arith, twice k.level)) ∙ sym (lt-ltb _ _ (omega (arith, twice k.level)))
   | inr high ↦ le-ltb _ _ (omega (arith, twice k.level)) ∙ sym (le-ltb _ _ (omega (arith, twice k.level)))

@@ -16,6 +16,9 @@ pub mod CombinedTreeLemmas
 pub mod CombinedSumLemmas
 pub mod LeafSumLemmas
 pub mod WholeBoxLemmas
+pub mod ConstantBoxLemmas
+pub mod CoarsenedTreeLemmas
+pub mod KeyCountLemmas
 pub mod ValueLimitLemmas
 pub mod SameEntryLemmas
 pub mod KeyOrderLemmas

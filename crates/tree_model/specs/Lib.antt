@@ -16,3 +16,4 @@ pub mod Signatures
 pub mod Versions
 pub mod Jobs
 pub mod StoredTrees
+pub mod CoarseningLaws

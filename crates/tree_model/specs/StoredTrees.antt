@@ -9,7 +9,7 @@ use Rattle.tree_model.specs.OperationTexts.{interior_keys}
 use Rattle.tree_model.specs.Project.{Projection, projected}
 use Rattle.tree_model.specs.Rows.{leaf_sums}
 use Rattle.tree_model.specs.Shapes.{is_key_of, is_leaf, is_interior}
-use Rattle.tree_model.specs.Trees.{Tree, IsTree, HasValues, box_sum, difference}
+use Rattle.tree_model.specs.Trees.{Tree, IsTree, HasValues, is_constant, box_sum, difference}
 
 -- the sum over the box of a leaf, and nothing at other keys
 abbrev pub leaf_sum_at : Tree → Key → Option ℤ
@@ -22,6 +22,10 @@ difference_at t k = if is_interior t.shape k then Some (difference t k) else Non
 -- the sum over a box that the tree doesn't cut, a leaf's or one below it, and nothing over other boxes
 abbrev pub whole_sum : Tree → Key → Option ℤ
 whole_sum t k = if t.shape (child k false) then None else Some (box_sum t k)
+
+-- the sum over a box on which all values are the same, and nothing over other boxes
+abbrev pub constant_sum : Tree → Key → Option ℤ
+constant_sum t k = if is_constant t k then Some (box_sum t k) else None
 
 -- the keys that have children with their differences, in key order
 abbrev pub interior_differences : Tree → List (Key × ℤ)

@@ -3,12 +3,17 @@
 //! The definitions stand in `specs/`; this crate's functions are laws about them, each a contract with an empty body.
 #![tactic(auto)]
 
+mod coarsening;
 mod coarsening_examples;
 mod examples;
 mod laws;
 mod operations;
 mod stored;
 
+pub use coarsening::{
+    boxes_are_constant_by_halves, coarsened_leaves_are_constant, coarsened_trees_are_least,
+    coarsened_trees_are_trees, keys_are_counted_by_leaves,
+};
 pub use laws::{
     leaves_are_constant, leaves_follow, projections_are_trees, rows_follow,
     values_stay_within_limits,
