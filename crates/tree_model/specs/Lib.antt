@@ -15,5 +15,7 @@ pub mod Commands
 pub mod Signatures
 pub mod Versions
 pub mod Jobs
+pub mod Totals
+pub mod Receipts
 pub mod StoredTrees
 pub mod CoarseningLaws

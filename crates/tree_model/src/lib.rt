@@ -8,6 +8,7 @@ mod coarsening_examples;
 mod examples;
 mod laws;
 mod operations;
+mod receipt_examples;
 mod stored;
 
 pub use coarsening::{
