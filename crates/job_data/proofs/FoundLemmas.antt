@@ -4,7 +4,7 @@ use Rattle.std.specs.Prelude.{◌&&◌, Option, Ok, is_some}
 use Rattle.std.specs.List.{list_all}
 use Rattle.tree_model.specs.Commands.{Command}
 use Rattle.tree_model.specs.Nodes.{Form}
-use Rattle.job_data.specs.declared.fault_kind.FaultKind.TheVariants.{BeyondLimits, UnknownTree, WrongForm, FarFromFence}
+use Rattle.job_data.specs.declared.fault_kind.FaultKind.TheVariants.{BeyondLimits, UnknownTree, WrongForm, FarFromFence, SizeBeforeFence}
 use Rattle.job_data.specs.Checks.{form_behind, is_written, suits}
 use Rattle.job_data.specs.CheckedCommands.{checked}
 use Rattle.job_data.proofs.WriterLemmas.{is_written_form}
@@ -19,5 +19,5 @@ all_suit needed before [] = refl
 all_suit needed before (name ∷ names) = ap (λ b. suits needed (form_behind before name) && b) (all_suit needed before names)
 
 -- the checks with equal answers
-pub same_checks : (c : Command) (a b t f n a' b' t' f' n' : Bool) → a ≡ a' → b ≡ b' → t ≡ t' → f ≡ f' → n ≡ n' → checked BeyondLimits (a && b) (checked UnknownTree t (checked WrongForm f (checked FarFromFence n (Ok c)))) ≡ checked BeyondLimits (a' && b') (checked UnknownTree t' (checked WrongForm f' (checked FarFromFence n' (Ok c))))
-same_checks c a b t f n a' b' t' f' n' within room there suit near = rw (within, room, there, suit, near) refl
+pub same_checks : (c : Command) (a b t f n s a' b' t' f' n' s' : Bool) → a ≡ a' → b ≡ b' → t ≡ t' → f ≡ f' → n ≡ n' → s ≡ s' → checked BeyondLimits (a && b) (checked UnknownTree t (checked WrongForm f (checked FarFromFence n (checked SizeBeforeFence s (Ok c))))) ≡ checked BeyondLimits (a' && b') (checked UnknownTree t' (checked WrongForm f' (checked FarFromFence n' (checked SizeBeforeFence s' (Ok c)))))
+same_checks c a b t f n s a' b' t' f' n' s' within room there suit near fence = rw (within, room, there, suit, near, fence) refl

@@ -1,5 +1,6 @@
 pub mod CheckLemmas
 pub mod WriterLemmas
+pub mod FenceLemmas
 pub mod HistoryLemmas
 pub mod MeaningLemmas
 pub mod CommandLemmas

@@ -8,15 +8,15 @@ use Rattle.std.proofs.lemmas.Bool.Decides.{nat_tests}
 use Rattle.std.proofs.lemmas.List.{take_at}
 use Rattle.std.proofs.Math.Seq.{get_or-append_seam}
 use Rattle.tree_model.specs.Commands.{Command}
-use Rattle.tree_model.specs.Commands.Command.{Project, Refine, Compress, Reconstruct, Add, Mul, Inner, Print, Fence}
+use Rattle.tree_model.specs.Commands.Command.{Project, Refine, Coarsen, Compress, Reconstruct, Add, Mul, Inner, Print, Size, Fence}
 use Rattle.tree_model.specs.Jobs.{JobData, command_lines}
 use Rattle.tree_model.specs.Nodes.{Form}
 use Rattle.tree_model.specs.Nodes.Form.{Reconstructed, Compressed}
-use Rattle.tree_model.specs.OperationTexts.{printed_lines, inner_line}
+use Rattle.tree_model.specs.OperationTexts.{printed_lines, inner_line, size_line}
 use Rattle.tree_model.specs.Signatures.{writes, written_form}
 use Rattle.tree_model.specs.Trees.{Tree}
 use Rattle.tree_model.specs.Versions.{Version, Versions, no_versions, same_form, tree_in, read, two_trees, read_two, written, newer, after, versions_behind}
-use Rattle.job_data.specs.Checks.{IsJob, form_behind, has_forms, has_room, has_trees, is_accepted, are_accepted, is_near_fence, is_within_limits, is_written, may_follow, names_read, needed_form, suits}
+use Rattle.job_data.specs.Checks.{IsJob, form_behind, has_forms, has_room, has_trees, is_accepted, are_accepted, is_near_fence, has_fence, is_within_limits, is_written, may_follow, names_read, needed_form, suits}
 use Rattle.job_data.specs.Meaning.{HasMeaning, reads_trees, tree_read, version_form, writes_lines}
 use Rattle.job_data.proofs.CheckLemmas.{are_accepted_at}
 use Rattle.job_data.proofs.WriterLemmas.{form_behind_push, is_written_form, written_form_writes}
@@ -38,12 +38,14 @@ same_if false x = refl
 pub versions_read : (depth : ℕ) (versions : Versions) (c : Command) → version_form (written depth versions c) ≡ (if reads_trees versions c then written_form c else None)
 versions_read depth versions (Project name p) = refl
 versions_read depth versions (Refine name level) = one_written Reconstructed _ (read versions Reconstructed name)
+versions_read depth versions (Coarsen name) = one_written Reconstructed _ (read versions Reconstructed name)
 versions_read depth versions (Compress name) = one_written Compressed (λ t. t) (read versions Reconstructed name)
 versions_read depth versions (Reconstruct name) = one_written Reconstructed (λ t. t) (read versions Compressed name)
 versions_read depth versions (Add name a left b right) = two_written Compressed _ (read versions Compressed left) (read versions Compressed right)
 versions_read depth versions (Mul name left right) = two_written Reconstructed _ (read versions Reconstructed left) (read versions Reconstructed right)
 versions_read depth versions (Inner left right) = same_if (reads_trees versions (Inner left right)) None
 versions_read depth versions (Print name) = same_if (reads_trees versions (Print name)) None
+versions_read depth versions (Size name) = same_if (reads_trees versions (Size name)) None
 versions_read depth versions Fence = refl
 
 abbrev some_bytes : List ℕ → Bool
@@ -69,16 +71,22 @@ one_told : (name : List ℕ) (o : Option Version) → some_bytes (option_map_or 
 one_told name None = refl
 one_told name (Some version) = printed version.form name version.tree
 
+counted : (name : List ℕ) (o : Option Version) → some_bytes (option_map_or (λ version. size_line name version.tree) o []) ≡ ((is_some (option_map (λ version. version.tree) o) && true) && true)
+counted name None = refl
+counted name (Some version) = search first_byte
+
 -- and so are lines
 pub lines_read : (versions : Versions) (c : Command) → some_bytes (command_lines versions c) ≡ (reads_trees versions c && writes_lines c)
 lines_read versions (Project name p) = refl
 lines_read versions (Refine name level) = and_no (reads_trees versions (Refine name level))
+lines_read versions (Coarsen name) = and_no (reads_trees versions (Coarsen name))
 lines_read versions (Compress name) = and_no (reads_trees versions (Compress name))
 lines_read versions (Reconstruct name) = and_no (reads_trees versions (Reconstruct name))
 lines_read versions (Add name a left b right) = and_no (reads_trees versions (Add name a left b right))
 lines_read versions (Mul name left right) = and_no (reads_trees versions (Mul name left right))
 lines_read versions (Inner left right) = two_told left right (read versions Compressed left) (read versions Compressed right)
 lines_read versions (Print name) = one_told name (versions name)
+lines_read versions (Size name) = counted name (versions name)
 lines_read versions Fence = refl
 
 both : (left right : Option Tree) → is_some (two_trees left right) ≡ (is_some left && is_some right)
@@ -123,8 +131,8 @@ all_read needed versions before (name ∷ names) has there suit =
 accepted_reads : (depth : ℕ) (versions : Versions) (before : List Command) (c : Command) → HasForms versions before → is_accepted depth before c ≡ true → reads_trees versions c ≡ true
 accepted_reads depth versions before c has accepted =
     let follows = (and_parts (is_within_limits depth c) (may_follow before c) accepted).1 in
-    let trees = and_parts (has_trees before c) (has_forms before c && is_near_fence before c) (and_parts (has_room before c) (has_trees before c && (has_forms before c && is_near_fence before c)) follows).1 in
-    let forms = (and_parts (has_forms before c) (is_near_fence before c) trees.1).0 in
+    let trees = and_parts (has_trees before c) (has_forms before c && (is_near_fence before c && has_fence before c)) (and_parts (has_room before c) (has_trees before c && (has_forms before c && (is_near_fence before c && has_fence before c))) follows).1 in
+    let forms = (and_parts (has_forms before c) (is_near_fence before c && has_fence before c) trees.1).0 in
     all_read (needed_form c) versions before (names_read c) has trees.0 forms
 
 accepted_has : (depth : ℕ) (versions : Versions) (before : List Command) (c : Command) → HasForms versions before → is_accepted depth before c ≡ true → HasMeaning depth versions c

@@ -2,8 +2,8 @@
 use Rattle.std.specs.Prelude.{ℕ, ◌&&◌, Bool, List, Option, Some, None, Result, Ok, Err, if◌then◌else◌}
 use Rattle.tree_model.specs.Commands.{Command}
 use Rattle.job_data.specs.declared.fault_kind.FaultKind.{FaultKind}
-use Rattle.job_data.specs.declared.fault_kind.FaultKind.TheVariants.{BeyondLimits, UnknownTree, WrongForm, FarFromFence}
-use Rattle.job_data.specs.Checks.{has_numbers, has_room, has_trees, has_forms, is_near_fence}
+use Rattle.job_data.specs.declared.fault_kind.FaultKind.TheVariants.{BeyondLimits, UnknownTree, WrongForm, FarFromFence, SizeBeforeFence}
+use Rattle.job_data.specs.Checks.{has_numbers, has_room, has_trees, has_forms, is_near_fence, has_fence}
 
 -- what comes where a check holds, and else the kind of fault
 abbrev pub checked : {A : Type 0} → FaultKind → Bool → Result A FaultKind → Result A FaultKind
@@ -20,4 +20,5 @@ checked_command depth before c =
     checked BeyondLimits (has_numbers depth c && has_room before c)
     (checked UnknownTree (has_trees before c)
     (checked WrongForm (has_forms before c)
-    (checked FarFromFence (is_near_fence before c) (Ok c))))
+    (checked FarFromFence (is_near_fence before c)
+    (checked SizeBeforeFence (has_fence before c) (Ok c)))))

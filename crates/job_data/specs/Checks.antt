@@ -104,9 +104,23 @@ has_forms before c = list_all (λ name. suits (needed_form c) (form_behind befor
 abbrev pub is_near_fence : List Command → Command → Bool
 is_near_fence before c = is_fence c || nat_lt (since_fence before) max_commands_before_fence
 
+-- whether a fence comes after the last of these commands that writes a name
+abbrev pub fenced_after : List ℕ → Bool → Command → Bool
+fenced_after name fenced command = if writes name command then false else (is_fence command || fenced)
+
+abbrev pub is_fenced : List Command → List ℕ → Bool
+is_fenced before name = fold (fenced_after name) false before
+
+-- whether a fence comes after the commands that last wrote the trees that a command reads, if it needs one
+abbrev pub has_fence_for : List Command → Signature → Bool
+has_fence_for before s = not s.needs_fence || list_all (is_fenced before) s.reads
+
+abbrev pub has_fence : List Command → Command → Bool
+has_fence before c = has_fence_for before (signature_of c)
+
 -- whether a command may stand after the commands before it
 abbrev pub may_follow : List Command → Command → Bool
-may_follow before c = has_room before c && (has_trees before c && (has_forms before c && is_near_fence before c))
+may_follow before c = has_room before c && (has_trees before c && (has_forms before c && (is_near_fence before c && has_fence before c)))
 
 abbrev pub is_accepted : ℕ → List Command → Command → Bool
 is_accepted depth before c = is_within_limits depth c && may_follow before c

@@ -1,7 +1,7 @@
 -- The number of a kind of fault, and its text.
 use Rattle.std.specs.Prelude.{ℕ, List, codes}
 use Rattle.job_data.specs.declared.fault_kind.FaultKind.{FaultKind}
-use Rattle.job_data.specs.declared.fault_kind.FaultKind.TheVariants.{ForeignByte, NoHeader, UnknownCommand, WrongWords, BeyondLimits, UnknownTree, WrongForm, FarFromFence}
+use Rattle.job_data.specs.declared.fault_kind.FaultKind.TheVariants.{ForeignByte, NoHeader, UnknownCommand, WrongWords, BeyondLimits, UnknownTree, WrongForm, FarFromFence, SizeBeforeFence}
 
 -- the number of a kind of fault
 abbrev pub kind_number : FaultKind → ℕ
@@ -13,6 +13,7 @@ kind_number BeyondLimits = 5
 kind_number UnknownTree = 6
 kind_number WrongForm = 7
 kind_number FarFromFence = 8
+kind_number SizeBeforeFence = 9
 
 -- what is wrong
 abbrev pub kind_text : FaultKind → List ℕ
@@ -24,3 +25,4 @@ kind_text BeyondLimits = codes "limit"
 kind_text UnknownTree = codes "unknown tree"
 kind_text WrongForm = codes "wrong form"
 kind_text FarFromFence = codes "too many before a fence"
+kind_text SizeBeforeFence = codes "size before a fence"

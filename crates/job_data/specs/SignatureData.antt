@@ -28,4 +28,5 @@ signature_data s = record {
   numbers = numbers_of s.numbers;
   prints = s.prints;
   fences = s.fences;
+  needs_fence = s.needs_fence;
 }

@@ -26,6 +26,10 @@ pub enum Command {
         name: Name,
         level: u8,
     },
+    /// Removes the keys below which all values are the same.
+    Coarsen {
+        name: Name,
+    },
     /// Turns a tree into the compressed form.
     Compress {
         name: Name,
@@ -55,6 +59,10 @@ pub enum Command {
     },
     /// Prints a tree.
     Print {
+        name: Name,
+    },
+    /// Prints the number of a tree's keys.
+    Size {
         name: Name,
     },
     /// Waits until all commands before it are done.
@@ -89,6 +97,16 @@ impl Command {
                 let needs = Some(reconstructed);
                 Signature::writing(name, reconstructed, Reads::One(name), needs, numbers)
             }
+            Command::Coarsen { name } => {
+                let needs = Some(reconstructed);
+                Signature::writing(
+                    name,
+                    reconstructed,
+                    Reads::One(name),
+                    needs,
+                    Numbers::Nothing,
+                )
+            }
             Command::Compress { name } => {
                 let needs = Some(reconstructed);
                 Signature::writing(name, compressed, Reads::One(name), needs, Numbers::Nothing)
@@ -119,9 +137,10 @@ impl Command {
                 Signature::writing(name, reconstructed, reads, needs, Numbers::Nothing)
             }
             Command::Inner { left, right } => {
-                Signature::reading(Reads::Two(left, right), Some(compressed), false)
+                Signature::reading(Reads::Two(left, right), Some(compressed), false, false)
             }
-            Command::Print { name } => Signature::reading(Reads::One(name), None, true),
+            Command::Print { name } => Signature::reading(Reads::One(name), None, true, false),
+            Command::Size { name } => Signature::reading(Reads::One(name), None, false, true),
             Command::Fence => Signature::fence(),
         }
     }

@@ -20,12 +20,14 @@ pub enum FaultKind {
     WrongForm,
     /// F8: more than 32 commands stand before a fence.
     FarFromFence,
+    /// F9: a tree is counted, and no fence comes after the command that last wrote it.
+    SizeBeforeFence,
 }
 
 impl FaultKind {
     ghost use Rattle.job_data.specs.FaultKinds.{kind_number, kind_text};
 
-    /// The number of the kind, from 1 to 8.
+    /// The number of the kind, from 1 to 9.
     pub fn number(self) -> u8
         ensures { result ≡ kind_number self }
     {
@@ -38,6 +40,7 @@ impl FaultKind {
             FaultKind::UnknownTree => 6,
             FaultKind::WrongForm => 7,
             FaultKind::FarFromFence => 8,
+            FaultKind::SizeBeforeFence => 9,
         }
     }
 
@@ -54,6 +57,7 @@ impl FaultKind {
             FaultKind::UnknownTree => "unknown tree",
             FaultKind::WrongForm => "wrong form",
             FaultKind::FarFromFence => "too many before a fence",
+            FaultKind::SizeBeforeFence => "size before a fence",
         }
     }
 }

@@ -1,9 +1,10 @@
 //! What the check of one more command needs of the commands before it.
 ghost use Rattle.std.specs.Prelude.{◌≡◌, ◌+◌, ◌<◌, ◌≤◌, length, ◌&&◌, ◌||◌, [], ◌∷◌, ◌++◌, Ok, map, nat_lt, not, take, true, if◌then◌else◌};
+ghost use Rattle.std.specs.List.{list_all};
 ghost use Rattle.std.specs.Option.{option_map};
 ghost use Rattle.tree_model.specs.Commands.{Command as CommandData};
-ghost use Rattle.job_data.specs.declared.fault_kind.FaultKind.TheVariants.{BeyondLimits, FarFromFence, UnknownTree, WrongForm};
-ghost use Rattle.job_data.specs.Checks.{brings, form_behind, has_room, has_room_for, is_accepted, is_written, max_commands_before_fence, max_prints, may_follow, trees_behind};
+ghost use Rattle.job_data.specs.declared.fault_kind.FaultKind.TheVariants.{BeyondLimits, FarFromFence, SizeBeforeFence, UnknownTree, WrongForm};
+ghost use Rattle.job_data.specs.Checks.{brings, form_behind, has_fence_for, has_room, has_room_for, is_accepted, is_fenced, is_written, max_commands_before_fence, max_prints, may_follow, trees_behind};
 ghost use Rattle.job_data.specs.Data.{data_of, form_of};
 ghost use Rattle.job_data.specs.Found.{forms_in};
 ghost use Rattle.job_data.specs.CheckedCommands.{checked, checked_command, unless_fault};
@@ -78,9 +79,10 @@ fn lowest_fault(
     are_there: bool,
     suit: bool,
     is_near: bool,
+    has_fence: bool,
 ) -> Option<FaultKind>
     ensures { (c : CommandData) → unless_fault result c
-        ≡ checked BeyondLimits (is_within && has_room) (checked UnknownTree are_there (checked WrongForm suit (checked FarFromFence is_near (Ok c)))) }
+        ≡ checked BeyondLimits (is_within && has_room) (checked UnknownTree are_there (checked WrongForm suit (checked FarFromFence is_near (checked SizeBeforeFence has_fence (Ok c))))) }
 {
     if !is_within || !has_room {
         Some(FaultKind::BeyondLimits)
@@ -90,6 +92,8 @@ fn lowest_fault(
         Some(FaultKind::WrongForm)
     } else if !is_near {
         Some(FaultKind::FarFromFence)
+    } else if !has_fence {
+        Some(FaultKind::SizeBeforeFence)
     } else {
         None
     }
@@ -164,6 +168,46 @@ impl History {
             && (!signature.prints || self.prints < MAX_PRINTS)
     }
 
+    // The number of the last of the commands that writes a name, or 0.
+    fn writer_number(&self, before: &[Command], name: &[u8]) -> usize
+        requires { Recalls (map data_of before.now) self.now }
+        ensures value { result ≡ version_behind (map data_of before.now) name.now }
+        ensures most { result ≤ length before.now }
+    {
+        version_at(before, &self.places[..self.trees], name)
+    }
+
+    // Whether a fence comes after the last of the commands that writes a name.
+    fn is_fenced(&self, before: &[Command], name: &[u8]) -> bool
+        requires { Recalls (map data_of before.now) self.now }
+        ensures { result ≡ is_fenced (map data_of before.now) name.now }
+    {
+        let last_fence = before.len() - self.since_fence as usize;
+        self.writer_number(before, name) < last_fence
+    }
+
+    // Whether a fence comes after the commands that last wrote the trees of these names.
+    fn are_fenced(&self, before: &[Command], reads: &Reads) -> bool
+        requires { Recalls (map data_of before.now) self.now }
+        ensures { result ≡ list_all (is_fenced (map data_of before.now)) (names_of reads.now) }
+    {
+        match *reads {
+            Reads::Nothing => true,
+            Reads::One(name) => self.is_fenced(before, name.bytes()),
+            Reads::Two(left, right) => {
+                self.is_fenced(before, left.bytes()) && self.is_fenced(before, right.bytes())
+            }
+        }
+    }
+
+    // Whether a fence comes after the commands that last wrote the trees that are read, if one is needed.
+    fn has_fence_for(&self, before: &[Command], signature: &Signature) -> bool
+        requires { Recalls (map data_of before.now) self.now }
+        ensures { result ≡ has_fence_for (map data_of before.now) (signature_data signature.now) }
+    {
+        !signature.needs_fence || self.are_fenced(before, &signature.reads)
+    }
+
     /// The lowest kind of fault that a command has after the commands. None where it has none.
     pub fn fault_of(&self, depth: u8, before: &[Command], command: &Command) -> Option<FaultKind>
         requires { Recalls (map data_of before.now) self.now }
@@ -177,7 +221,8 @@ impl History {
         let are_there = found.are_there();
         let suit = found.suit(signature.needs);
         let is_near = is_near(self.since_fence, signature.fences);
-        lowest_fault(is_within, has_room, are_there, suit, is_near)
+        let has_fence = self.has_fence_for(before, &signature);
+        lowest_fault(is_within, has_room, are_there, suit, is_near, has_fence)
     }
 
     /// Whether a command is within its limits at a depth, and may stand after the commands.
@@ -194,7 +239,7 @@ impl History {
         requires few { length before.now < 512 }
         ensures { result ≡ version_behind (map data_of before.now) name.now }
     {
-        version_at(before, &self.places[..self.trees], name)
+        self.writer_number(before, name) as u32
     }
 
     // What a command with this signature reads and writes after the commands, which are fewer than 512.

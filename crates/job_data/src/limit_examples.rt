@@ -2,10 +2,10 @@
 //! by hand.
 ghost use Rattle.std.specs.Prelude.{◌≡◌, [], ◌∷◌, ◌+◌, codes, false, map, negsuc, pos, replicate, true};
 ghost use Rattle.std.specs.List.{list_all, list_any, range_with_len};
-ghost use Rattle.tree_model.specs.Commands.Command.{Add, Fence, Print, Project, Refine};
+ghost use Rattle.tree_model.specs.Commands.Command.{Add, Coarsen, Fence, Print, Project, Refine, Size};
 ghost use Rattle.tree_model.specs.Functions.Function.{Box, Const, Hash, Ramp, Step};
 ghost use Rattle.tree_model.specs.Functions.{fits};
-ghost use Rattle.job_data.specs.Checks.{has_numbers, has_room, is_near_fence};
+ghost use Rattle.job_data.specs.Checks.{has_fence, has_numbers, has_room, is_near_fence};
 ghost use Rattle.job_data.specs.Samples.{constant};
 
 /// Constants, and the depth.
@@ -79,4 +79,17 @@ pub fn trees()
     ensures last { has_room (map (λ i. constant ((97 + i) ∷ [])) (range_with_len 0 15)) (constant (codes "z")) ≡ true }
     ensures above { has_room (map (λ i. constant ((97 + i) ∷ [])) (range_with_len 0 16)) (constant (codes "z")) ≡ false }
     ensures again { has_room (map (λ i. constant ((97 + i) ∷ [])) (range_with_len 0 16)) (constant (codes "a")) ≡ true }
+    ensures coarsened { has_room (map (λ i. constant ((97 + i) ∷ [])) (range_with_len 0 16)) (Coarsen (codes "z")) ≡ false }
+    ensures counted { has_room (map (λ i. constant ((97 + i) ∷ [])) (range_with_len 0 16)) (Size (codes "z")) ≡ true }
+{}
+
+/// A tree is counted only after a fence that comes after the command that last wrote it.
+pub fn fences_before_sizes()
+    ensures none { has_fence (constant (codes "f") ∷ []) (Size (codes "f")) ≡ false }
+    ensures fence { has_fence (constant (codes "f") ∷ Fence ∷ Print (codes "f") ∷ []) (Size (codes "f")) ≡ true }
+    ensures fence_before { has_fence (Fence ∷ constant (codes "f") ∷ []) (Size (codes "f")) ≡ false }
+    ensures written_again { has_fence (constant (codes "f") ∷ Fence ∷ Coarsen (codes "f") ∷ []) (Size (codes "f")) ≡ false }
+    ensures fenced_again { has_fence (constant (codes "f") ∷ Fence ∷ Coarsen (codes "f") ∷ Fence ∷ []) (Size (codes "f")) ≡ true }
+    ensures other_tree { has_fence (constant (codes "f") ∷ Fence ∷ constant (codes "g") ∷ []) (Size (codes "f")) ≡ true }
+    ensures printed { has_fence (constant (codes "f") ∷ []) (Print (codes "f")) ≡ true }
 {}

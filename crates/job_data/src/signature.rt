@@ -48,6 +48,8 @@ pub struct Signature {
     pub prints: bool,
     /// Whether it is a `fence`.
     pub fences: bool,
+    /// Whether a fence has to come between the command that last wrote a tree that it reads, and it.
+    pub needs_fence: bool,
 }
 
 const MAX_TOLERANCE: u32 = 1 << 25;
@@ -102,12 +104,19 @@ impl Signature {
             numbers,
             prints: false,
             fences: false,
+            needs_fence: false,
         }
     }
 
     /// Of a command that only reads.
-    pub fn reading(reads: Reads, needs: Option<TreeForm>, prints: bool) -> Signature
-        ensures { signature_data result ≡ reading (names_of reads) (option_map form_of needs) prints }
+    pub fn reading(
+        reads: Reads,
+        needs: Option<TreeForm>,
+        prints: bool,
+        needs_fence: bool,
+    ) -> Signature
+        ensures { signature_data result
+            ≡ reading (names_of reads) (option_map form_of needs) prints needs_fence }
     {
         Signature {
             writes: None,
@@ -116,6 +125,7 @@ impl Signature {
             numbers: Numbers::Nothing,
             prints,
             fences: false,
+            needs_fence,
         }
     }
 
@@ -130,6 +140,7 @@ impl Signature {
             numbers: Numbers::Nothing,
             prints: false,
             fences: true,
+            needs_fence: false,
         }
     }
 }

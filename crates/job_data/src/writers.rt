@@ -1,5 +1,5 @@
 //! The last writer of each tree, as places of a list of commands.
-ghost use Rattle.std.specs.Prelude.{◌≡◌, ◌<◌, All, map, position};
+ghost use Rattle.std.specs.Prelude.{◌≡◌, ◌<◌, ◌≤◌, All, length, map, position};
 ghost use Rattle.std.specs.Option.{option_map};
 ghost use Rattle.tree_model.specs.Signatures.{writes, written_form};
 ghost use Rattle.job_data.specs.Data.{data_of, form_of};
@@ -41,13 +41,14 @@ pub fn form_at(commands: &[Command], places: &[usize], name: &[u8]) -> Option<Tr
 }
 
 /// The number of the command at the first of these places that writes a name, or 0 where none does.
-pub fn version_at(commands: &[Command], places: &[usize], name: &[u8]) -> u32
-    requires { All (λ place. place < 512) places.now }
-    ensures { result ≡ version_at (map data_of commands.now) places.now name.now }
+pub fn version_at(commands: &[Command], places: &[usize], name: &[u8]) -> usize
+    requires { All (λ place. place < length commands.now) places.now }
+    ensures value { result ≡ version_at (map data_of commands.now) places.now name.now }
+    ensures most { result ≤ length commands.now }
 {
     for place in places {
         if writes_at(commands, *place, name) {
-            return *place as u32 + 1;
+            return *place + 1;
         }
     }
     0

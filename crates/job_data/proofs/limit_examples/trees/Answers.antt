@@ -9,3 +9,9 @@ returns-clause-above c = refl
 
 pub returns-clause-again : goal.returns-clause-again
 returns-clause-again c = refl
+
+pub returns-clause-coarsened : goal.returns-clause-coarsened
+returns-clause-coarsened c = refl
+
+pub returns-clause-counted : goal.returns-clause-counted
+returns-clause-counted c = refl
