@@ -11,21 +11,21 @@ use Rattle.std.proofs.Math.Nat.{pow-le-pow_right}
 use Rattle.std.proofs.lemmas.List.{map-append, take_more}
 use Rattle.std.proofs.lemmas.Grind.{flat_map-append}
 use Rattle.tree_model.specs.Commands.{Command}
-use Rattle.tree_model.specs.Commands.Command.{Project, Refine, Compress, Reconstruct, Add, Mul, Inner, Print, Fence}
+use Rattle.tree_model.specs.Commands.Command.{Project, Refine, Coarsen, Compress, Reconstruct, Add, Mul, Inner, Print, Size, Fence}
 use Rattle.tree_model.specs.Functions.{Function, fits, max_depth, max_value, max_difference, is_value, value_at}
 use Rattle.tree_model.specs.Functions.Function.{Const, Ramp, Step, Box, Hash}
 use Rattle.tree_model.specs.Jobs.{JobData}
 use Rattle.job_lang.specs.declared.function_form.FunctionForm.{FunctionForm}
 use Rattle.job_lang.specs.declared.function_form.FunctionForm.TheVariants.{Const as ConstForm, Ramp as RampForm, Step as StepForm, Box as BoxForm, Hash as HashForm}
 use Rattle.job_lang.specs.Canonical.{function_words, command_words, header_words, command_text, canonical_text}
-use Rattle.job_data.specs.Checks.{has_names, has_numbers, is_within_limits, has_room, has_trees, has_forms, is_near_fence, may_follow, is_accepted, are_accepted, IsJob}
+use Rattle.job_data.specs.Checks.{has_names, has_numbers, is_within_limits, has_room, has_trees, has_forms, is_near_fence, has_fence, may_follow, is_accepted, are_accepted, IsJob}
 use Rattle.tree_model.specs.Signatures.{is_factor}
 use Rattle.job_lang.specs.Grammar.{function_at, function_of_form, header_of}
 use Rattle.job_words.specs.Lines.{Words, words, is_passed_over, line_of}
 use Rattle.job_words.specs.Names.{is_name}
 use Rattle.job_words.specs.Numbers.{number}
 use Rattle.job_data.specs.declared.fault_kind.FaultKind.{FaultKind}
-use Rattle.job_data.specs.declared.fault_kind.FaultKind.TheVariants.{ForeignByte, NoHeader, BeyondLimits, UnknownTree, WrongForm, FarFromFence}
+use Rattle.job_data.specs.declared.fault_kind.FaultKind.TheVariants.{ForeignByte, NoHeader, BeyondLimits, UnknownTree, WrongForm, FarFromFence, SizeBeforeFence}
 use Rattle.job_data.specs.CheckedCommands.{checked, checked_command}
 use Rattle.job_lang.specs.Reading.{read, command_of_words, command_of_line, depth_of_line, header_from, commands_from, job_with, job_behind, reading_of}
 use Rattle.job_words.proofs.WordLemmas.{IsWord, AreWords, words_line_of, line_of_printable, line_of_allowed, lines_line, decimal_word, number_decimal, number_signed, signed_word, name_word}
@@ -161,6 +161,9 @@ project_reads depth before name ws l t form f n m is_name is_function function l
 refine_reads : (depth : ℕ) (before : List Command) (name l : List ℕ) (n : ℕ) → is_name name ≡ true → number l ≡ Some (pos n) → command_of_words depth before (codes "refine" ∷ name ∷ l ∷ []) ≡ checked_command depth before (Refine name n)
 refine_reads depth before name l n is_name level = rw (is_name, level) refl
 
+coarsen_reads : (depth : ℕ) (before : List Command) (name : List ℕ) → is_name name ≡ true → command_of_words depth before (codes "coarsen" ∷ name ∷ []) ≡ checked_command depth before (Coarsen name)
+coarsen_reads depth before name is_name = rw is_name refl
+
 compress_reads : (depth : ℕ) (before : List Command) (name : List ℕ) → is_name name ≡ true → command_of_words depth before (codes "compress" ∷ name ∷ []) ≡ checked_command depth before (Compress name)
 compress_reads depth before name is_name = rw is_name refl
 
@@ -178,6 +181,9 @@ inner_reads depth before left right is_left is_right = rw (is_left, is_right) re
 
 print_reads : (depth : ℕ) (before : List Command) (name : List ℕ) → is_name name ≡ true → command_of_words depth before (codes "print" ∷ name ∷ []) ≡ checked_command depth before (Print name)
 print_reads depth before name is_name = rw is_name refl
+
+size_reads : (depth : ℕ) (before : List Command) (name : List ℕ) → is_name name ≡ true → command_of_words depth before (codes "size" ∷ name ∷ []) ≡ checked_command depth before (Size name)
+size_reads depth before name is_name = rw is_name refl
 
 factor_small : (z : ℤ) → is_factor z ≡ true → Small z
 factor_small z is = let most : unsigned_abs z ≤ 1048576 = at_most (unsigned_abs z) 1048576 is in omega (arith, most, limit)
@@ -208,6 +214,13 @@ command_reads depth (Refine name level) shallow names numbers =
     record {
       words = (a_word (codes "refine") refl refl, (name_word name is, (decimal_word level small, tt)));
       command = λ depth before. refine_reads depth before name (decimal level) level is (number_decimal level small);
+      first = refl;
+    }
+command_reads depth (Coarsen name) shallow names numbers =
+    let is = (and_parts (is_name name) (is_name name && true) names).0 in
+    record {
+      words = (a_word (codes "coarsen") refl refl, (name_word name is, tt));
+      command = λ depth before. coarsen_reads depth before name is;
       first = refl;
     }
 command_reads depth (Compress name) shallow names numbers =
@@ -260,6 +273,13 @@ command_reads depth (Print name) shallow names numbers =
       command = λ depth before. print_reads depth before name is;
       first = refl;
     }
+command_reads depth (Size name) shallow names numbers =
+    let is = (and_parts (is_name name) true names).0 in
+    record {
+      words = (a_word (codes "size") refl refl, (name_word name is, tt));
+      command = λ depth before. size_reads depth before name is;
+      first = refl;
+    }
 command_reads depth Fence shallow names numbers = record {
   words = (a_word (codes "fence") refl refl, tt);
   command = λ depth before. refl;
@@ -267,18 +287,19 @@ command_reads depth Fence shallow names numbers = record {
 }
 
 -- an accepted command has no fault
-no_fault : (c : Command) (a b t f n : Bool) → a ≡ true → (b && (t && (f && n))) ≡ true → checked BeyondLimits (a && b) (checked UnknownTree t (checked WrongForm f (checked FarFromFence n (Ok c)))) ≡ Ok c
-no_fault c true true true true true numbers rest = refl
-no_fault c true true true true false numbers rest = cc
-no_fault c true true true false n numbers rest = cc
-no_fault c true true false f n numbers rest = cc
-no_fault c true false t f n numbers rest = cc
-no_fault c false b t f n numbers rest = cc
+no_fault : (c : Command) (a b t f n s : Bool) → a ≡ true → (b && (t && (f && (n && s)))) ≡ true → checked BeyondLimits (a && b) (checked UnknownTree t (checked WrongForm f (checked FarFromFence n (checked SizeBeforeFence s (Ok c))))) ≡ Ok c
+no_fault c true true true true true true numbers rest = refl
+no_fault c true true true true true false numbers rest = cc
+no_fault c true true true true false s numbers rest = cc
+no_fault c true true true false n s numbers rest = cc
+no_fault c true true false f n s numbers rest = cc
+no_fault c true false t f n s numbers rest = cc
+no_fault c false b t f n s numbers rest = cc
 
 accepted_checked : (depth : ℕ) (before : List Command) (c : Command) → is_accepted depth before c ≡ true → checked_command depth before c ≡ Ok c
 accepted_checked depth before c is =
     let parts = and_parts (is_within_limits depth c) (may_follow before c) is in
-    no_fault c (has_numbers depth c) (has_room before c) (has_trees before c) (has_forms before c) (is_near_fence before c) (and_parts (has_names c) (has_numbers depth c) parts.0).1 parts.1
+    no_fault c (has_numbers depth c) (has_room before c) (has_trees before c) (has_forms before c) (is_near_fence before c) (has_fence before c) (and_parts (has_names c) (has_numbers depth c) parts.0).1 parts.1
 
 words_all : (ws : Words) → AreWords ws → is_passed_over ws ≡ false → words (line_of ws) ≡ ws
 words_all [] are first = cc

@@ -10,12 +10,12 @@ use Rattle.tree_model.specs.Commands.Command.{Project as ProjectCommand, Refine 
 use Rattle.tree_model.specs.Functions.{Function, fits, max_depth, max_value, max_difference, is_value}
 use Rattle.tree_model.specs.Functions.Function.{Step as StepFunction, Box as BoxFunction, Hash as HashFunction}
 use Rattle.job_data.specs.declared.fault_kind.FaultKind.{FaultKind}
-use Rattle.job_data.specs.declared.fault_kind.FaultKind.TheVariants.{BeyondLimits, UnknownTree, WrongForm, FarFromFence}
+use Rattle.job_data.specs.declared.fault_kind.FaultKind.TheVariants.{BeyondLimits, UnknownTree, WrongForm, FarFromFence, SizeBeforeFence}
 use Rattle.job_lang.specs.declared.function_form.FunctionForm.{FunctionForm}
 use Rattle.job_lang.specs.declared.function_form.FunctionForm.TheVariants.{Const, Ramp, Step, Box, Hash}
-use Rattle.job_data.specs.Checks.{has_numbers, has_room, has_trees, has_forms, is_near_fence}
+use Rattle.job_data.specs.Checks.{has_numbers, has_room, has_trees, has_forms, is_near_fence, has_fence}
 use Rattle.job_lang.specs.Grammar.{◌>>=◌, Form, size_of, command_of_form, function_of_form}
-use Rattle.job_lang.specs.Grammar.Form.{ProjectForm, RefineForm, CompressForm, ReconstructForm, AddForm, MulForm, InnerForm, PrintForm, FenceForm}
+use Rattle.job_lang.specs.Grammar.Form.{ProjectForm, RefineForm, CoarsenForm, CompressForm, ReconstructForm, AddForm, MulForm, InnerForm, PrintForm, SizeForm, FenceForm}
 use Rattle.job_lang.specs.Limits.{size_up_to, max_8_bits, max_32_bits, small_function, small_command}
 use Rattle.job_data.specs.CheckedCommands.{checked, checked_command}
 use Rattle.job_lang.specs.Reading.{read}
@@ -215,24 +215,25 @@ small_limited depth shallow (RefineForm name level) =
     mapped (RefineCommand name) (size_of level) (keep depth)
     ∙ sym (sized max_8_bits level (λ n. keep depth (RefineCommand name n)) (λ n large. ap (λ b. some_if b (RefineCommand name n)) (level_large depth n shallow large)))
     ∙ sym (mapped (RefineCommand name) (size_up_to max_8_bits level) (keep depth))
+small_limited depth shallow (CoarsenForm name) = refl
 small_limited depth shallow (CompressForm name) = refl
 small_limited depth shallow (ReconstructForm name) = refl
 small_limited depth shallow (AddForm name left_factor left right_factor right) = refl
 small_limited depth shallow (MulForm name left right) = refl
 small_limited depth shallow (InnerForm left right) = refl
 small_limited depth shallow (PrintForm name) = refl
+small_limited depth shallow (SizeForm name) = refl
 small_limited depth shallow FenceForm = refl
 
-abbrev tests : Bool → Bool → Bool → Bool → Bool → Command → Result Command FaultKind
-tests a b t f n c = checked BeyondLimits (a && b) (checked UnknownTree t (checked WrongForm f (checked FarFromFence n (Ok c))))
-
-by_limits : (a b t f n : Bool) (c : Command) (next : Command → Result Command FaultKind) → next c ≡ tests a b t f n c → next c ≡ read BeyondLimits (some_if a c) next
-by_limits true b t f n c next is = refl
-by_limits false b t f n c next is = is
+by_limits : (a b : Bool) (rest : Result Command FaultKind) (c : Command) (next : Command → Result Command FaultKind) → next c ≡ checked BeyondLimits (a && b) rest → next c ≡ read BeyondLimits (some_if a c) next
+by_limits true b rest c next is = refl
+by_limits false b rest c next is = is
 
 kept : (depth : ℕ) (before : List Command) (o : Option Command) → read BeyondLimits o (checked_command depth before) ≡ read BeyondLimits (o >>= keep depth) (checked_command depth before)
 kept depth before None = refl
-kept depth before (Some c) = by_limits (has_numbers depth c) (has_room before c) (has_trees before c) (has_forms before c) (is_near_fence before c) c (checked_command depth before) refl
+kept depth before (Some c) =
+    let rest = checked UnknownTree (has_trees before c) (checked WrongForm (has_forms before c) (checked FarFromFence (is_near_fence before c) (checked SizeBeforeFence (has_fence before c) (Ok c)))) in
+    by_limits (has_numbers depth c) (has_room before c) rest c (checked_command depth before) refl
 
 -- the reading of a form, by the command whose numbers have these sizes
 pub form_read : (depth : ℕ) (before : List Command) (form : Form) → nat_le depth max_depth ≡ true → read BeyondLimits (command_of_form form) (checked_command depth before) ≡ read BeyondLimits (small_command form) (checked_command depth before)

@@ -5,7 +5,7 @@ use Rattle.std.specs.List.{flat_map}
 use Rattle.tree_model.specs.Functions.{Function}
 use Rattle.tree_model.specs.Functions.Function.{Const, Ramp, Step, Box, Hash}
 use Rattle.tree_model.specs.Commands.{Command}
-use Rattle.tree_model.specs.Commands.Command.{Project, Refine, Compress, Reconstruct, Add, Mul, Inner, Print, Fence}
+use Rattle.tree_model.specs.Commands.Command.{Project, Refine, Coarsen, Compress, Reconstruct, Add, Mul, Inner, Print, Size, Fence}
 use Rattle.tree_model.specs.Jobs.{JobData}
 use Rattle.job_words.specs.Lines.{Words, line_of}
 
@@ -20,6 +20,7 @@ function_words (Hash seed modulus) = codes "hash" ∷ decimal seed ∷ decimal m
 abbrev pub command_words : Command → Words
 command_words (Project name p) = codes "project" ∷ name ∷ (function_words p.function ++ codes "level" ∷ decimal p.level ∷ codes "tol" ∷ decimal p.tolerance ∷ [])
 command_words (Refine name level) = codes "refine" ∷ name ∷ decimal level ∷ []
+command_words (Coarsen name) = codes "coarsen" ∷ name ∷ []
 command_words (Compress name) = codes "compress" ∷ name ∷ []
 command_words (Reconstruct name) = codes "reconstruct" ∷ name ∷ []
 command_words (Add name left_factor left right_factor right) =
@@ -27,6 +28,7 @@ command_words (Add name left_factor left right_factor right) =
 command_words (Mul name left right) = codes "mul" ∷ name ∷ codes "=" ∷ left ∷ codes "*" ∷ right ∷ []
 command_words (Inner left right) = codes "inner" ∷ left ∷ right ∷ []
 command_words (Print name) = codes "print" ∷ name ∷ []
+command_words (Size name) = codes "size" ∷ name ∷ []
 command_words Fence = codes "fence" ∷ []
 
 abbrev pub header_words : ℕ → Words

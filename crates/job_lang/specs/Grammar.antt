@@ -6,14 +6,14 @@ use Rattle.std.specs.Str.{bytes_eq}
 use Rattle.tree_model.specs.Functions.{Function, max_depth}
 use Rattle.tree_model.specs.Functions.Function.{Const as ConstFunction, Ramp as RampFunction, Step as StepFunction, Box as BoxFunction, Hash as HashFunction}
 use Rattle.tree_model.specs.Commands.{Command}
-use Rattle.tree_model.specs.Commands.Command.{Project as ProjectCommand, Refine as RefineCommand, Compress as CompressCommand, Reconstruct as ReconstructCommand, Add as AddCommand, Mul as MulCommand, Inner as InnerCommand, Print as PrintCommand, Fence as FenceCommand}
+use Rattle.tree_model.specs.Commands.Command.{Project as ProjectCommand, Refine as RefineCommand, Coarsen as CoarsenCommand, Compress as CompressCommand, Reconstruct as ReconstructCommand, Add as AddCommand, Mul as MulCommand, Inner as InnerCommand, Print as PrintCommand, Size as SizeCommand, Fence as FenceCommand}
 use Rattle.job_words.specs.Lines.{Words}
 use Rattle.job_words.specs.Names.{is_name}
 use Rattle.job_words.specs.Numbers.{number}
 use Rattle.job_lang.specs.declared.function_form.FunctionForm.{FunctionForm}
 use Rattle.job_lang.specs.declared.function_form.FunctionForm.TheVariants.{Const, Ramp, Step, Box, Hash}
 use Rattle.job_lang.specs.declared.verb.Verb.{Verb}
-use Rattle.job_lang.specs.declared.verb.Verb.TheVariants.{Project, Refine, Compress, Reconstruct, Add, Mul, Inner, Print, Fence}
+use Rattle.job_lang.specs.declared.verb.Verb.TheVariants.{Project, Refine, Coarsen, Compress, Reconstruct, Add, Mul, Inner, Print, Size, Fence}
 
 infixl 10 ◌>>=◌
 abbrev pub ◌>>=◌ : {A B : Type 0} → Option A → (A → Option B) → Option B
@@ -112,12 +112,14 @@ abbrev pub verb_of : List ℕ → Option Verb
 verb_of word =
     if bytes_eq word (codes "project") then Some Project
     else if bytes_eq word (codes "refine") then Some Refine
+    else if bytes_eq word (codes "coarsen") then Some Coarsen
     else if bytes_eq word (codes "compress") then Some Compress
     else if bytes_eq word (codes "reconstruct") then Some Reconstruct
     else if bytes_eq word (codes "add") then Some Add
     else if bytes_eq word (codes "mul") then Some Mul
     else if bytes_eq word (codes "inner") then Some Inner
     else if bytes_eq word (codes "print") then Some Print
+    else if bytes_eq word (codes "size") then Some Size
     else if bytes_eq word (codes "fence") then Some Fence
     else None
 
@@ -125,12 +127,14 @@ verb_of word =
 pub data Form : Type 0 where
   ProjectForm : (name : List ℕ) (function : FunctionForm) (level tolerance : ℤ) → Form
   RefineForm : (name : List ℕ) (level : ℤ) → Form
+  CoarsenForm : (name : List ℕ) → Form
   CompressForm : (name : List ℕ) → Form
   ReconstructForm : (name : List ℕ) → Form
   AddForm : (name : List ℕ) (left_factor : ℤ) (left : List ℕ) (right_factor : ℤ) (right : List ℕ) → Form
   MulForm : (name left right : List ℕ) → Form
   InnerForm : (left right : List ℕ) → Form
   PrintForm : (name : List ℕ) → Form
+  SizeForm : (name : List ℕ) → Form
   FenceForm : Form
 
 -- `NAME FUNC level N tol T`
@@ -201,12 +205,14 @@ fence_of words = do
 abbrev pub form_of : Verb → Words → Option Form
 form_of Project words = project_of words
 form_of Refine words = refine_of words
+form_of Coarsen words = option_map CoarsenForm (one_name words)
 form_of Compress words = option_map CompressForm (one_name words)
 form_of Reconstruct words = option_map ReconstructForm (one_name words)
 form_of Add words = add_of words
 form_of Mul words = mul_of words
 form_of Inner words = option_map (λ names. InnerForm names.0 names.1) (two_names words)
 form_of Print words = option_map PrintForm (one_name words)
+form_of Size words = option_map SizeForm (one_name words)
 form_of Fence words = fence_of words
 
 -- the function of a form, whose edges, seed and modulus aren't negative
@@ -231,10 +237,12 @@ command_of_form (ProjectForm name function level tolerance) = do
   t ← size_of tolerance
   Some (ProjectCommand name (record { function = f; level = n; tolerance = t }))
 command_of_form (RefineForm name level) = option_map (RefineCommand name) (size_of level)
+command_of_form (CoarsenForm name) = Some (CoarsenCommand name)
 command_of_form (CompressForm name) = Some (CompressCommand name)
 command_of_form (ReconstructForm name) = Some (ReconstructCommand name)
 command_of_form (AddForm name left_factor left right_factor right) = Some (AddCommand name left_factor left right_factor right)
 command_of_form (MulForm name left right) = Some (MulCommand name left right)
 command_of_form (InnerForm left right) = Some (InnerCommand left right)
 command_of_form (PrintForm name) = Some (PrintCommand name)
+command_of_form (SizeForm name) = Some (SizeCommand name)
 command_of_form FenceForm = Some FenceCommand

@@ -5,11 +5,11 @@ use Rattle.std.specs.List.{list_all}
 use Rattle.std.specs.Option.{option_map_or}
 use Rattle.tree_model.specs.Commands.{Command}
 use Rattle.job_lang.specs.declared.verb.Verb.{Verb}
-use Rattle.job_data.specs.Checks.{has_numbers, has_room, has_trees, has_forms, is_near_fence}
+use Rattle.job_data.specs.Checks.{has_numbers, has_room, has_trees, has_forms, is_near_fence, has_fence}
 use Rattle.job_lang.specs.Grammar.{◌>>=◌, Form, verb_of, form_of, command_of_form}
 use Rattle.job_words.specs.Lines.{Words, words, is_allowed, is_passed_over}
 use Rattle.job_data.specs.declared.fault_kind.FaultKind.{FaultKind}
-use Rattle.job_data.specs.declared.fault_kind.FaultKind.TheVariants.{ForeignByte, UnknownCommand, WrongWords, BeyondLimits, UnknownTree, WrongForm, FarFromFence}
+use Rattle.job_data.specs.declared.fault_kind.FaultKind.TheVariants.{ForeignByte, UnknownCommand, WrongWords, BeyondLimits, UnknownTree, WrongForm, FarFromFence, SizeBeforeFence}
 use Rattle.job_lang.specs.Reading.{command_of_line}
 
 -- the verb, the form and the command that words say, where they say one
@@ -40,7 +40,8 @@ has_wrong_words line = is_none (form_in (words line))
 abbrev pub is_beyond_limits : ℕ → List Command → List ℕ → Bool
 is_beyond_limits depth before line = not (option_map_or (λ c. has_numbers depth c && has_room before c) (command_in (words line)) false)
 
--- 6, 7, 8: the command reads a tree that isn't written, reads one in the wrong form, and is too far from a fence
+-- 6, 7, 8, 9: the command reads a tree that isn't written, reads one in the wrong form, is too far from a fence, and needs
+-- one after a command that wrote a tree that it reads
 abbrev pub reads_unknown_tree : List Command → List ℕ → Bool
 reads_unknown_tree before line = option_map_or (λ c. not (has_trees before c)) (command_in (words line)) false
 
@@ -49,6 +50,9 @@ reads_wrong_form before line = option_map_or (λ c. not (has_forms before c)) (c
 
 abbrev pub is_far_from_fence : List Command → List ℕ → Bool
 is_far_from_fence before line = option_map_or (λ c. not (is_near_fence before c)) (command_in (words line)) false
+
+abbrev pub counts_before_fence : List Command → List ℕ → Bool
+counts_before_fence before line = option_map_or (λ c. not (has_fence before c)) (command_in (words line)) false
 
 -- the lowest kind that a line has, if it has one
 abbrev pub lowest_kind : ℕ → List Command → List ℕ → Option FaultKind
@@ -60,6 +64,7 @@ lowest_kind depth before line =
     else if reads_unknown_tree before line then Some UnknownTree
     else if reads_wrong_form before line then Some WrongForm
     else if is_far_from_fence before line then Some FarFromFence
+    else if counts_before_fence before line then Some SizeBeforeFence
     else None
 
 -- the kind of fault that was answered, and the command

@@ -157,6 +157,7 @@ fn add_words(text: &mut Text, command: &Command) -> Result<(), OutOfMemory>
             add_named(text, b"refine", name.bytes())?;
             add_size(text, u32::from(*level))
         }
+        Command::Coarsen { name } => add_named(text, b"coarsen", name.bytes()),
         Command::Compress { name } => add_named(text, b"compress", name.bytes()),
         Command::Reconstruct { name } => add_named(text, b"reconstruct", name.bytes()),
         Command::Add {
@@ -178,6 +179,7 @@ fn add_words(text: &mut Text, command: &Command) -> Result<(), OutOfMemory>
             add_word(text, right.bytes())
         }
         Command::Print { name } => add_named(text, b"print", name.bytes()),
+        Command::Size { name } => add_named(text, b"size", name.bytes()),
         Command::Fence => text.add(b"fence"),
     }
 }

@@ -1,12 +1,12 @@
 //! The reading of bytes, computed on small texts. What is expected was worked out by hand.
 ghost use Rattle.std.specs.Prelude.{◌≡◌, [], ◌∷◌, ◌++◌, Some, None, Ok, Err, codes, pos, negsuc};
 ghost use Rattle.tree_model.specs.Functions.Function.{Const, Hash, Ramp};
-ghost use Rattle.tree_model.specs.Commands.Command.{Add, Compress, Fence, Inner, Mul, Print, Project, Reconstruct, Refine};
+ghost use Rattle.tree_model.specs.Commands.Command.{Add, Coarsen, Compress, Fence, Inner, Mul, Print, Project, Reconstruct, Refine, Size};
 ghost use Rattle.job_lang.specs.Canonical.{canonical_text};
 ghost use Rattle.job_lang.specs.Faults.{fault_line};
 ghost use Rattle.job_lang.specs.Reading.{reading_of};
 ghost use Rattle.job_data.specs.Versions.{plan_of};
-ghost use Rattle.job_data.specs.declared.fault_kind.FaultKind.TheVariants.{BeyondLimits, FarFromFence, ForeignByte, NoHeader, UnknownCommand, UnknownTree, WrongForm, WrongWords};
+ghost use Rattle.job_data.specs.declared.fault_kind.FaultKind.TheVariants.{BeyondLimits, FarFromFence, ForeignByte, NoHeader, SizeBeforeFence, UnknownCommand, UnknownTree, WrongForm, WrongWords};
 ghost use Rattle.job_data.specs.declared.sources.Sources.TheVariants.{Nothing, One, Two};
 
 /// Without any line the header is missing on line 1.
@@ -115,6 +115,19 @@ pub fn forms_of_trees()
     ensures factor_too_large { reading_of (codes "job 1 depth 0\nproject f const 1 level 0 tol 0\ncompress f\nadd f = 1048577 f + 0 f") ≡ Err (record { line = 4; kind = BeyondLimits }) }
 {}
 
+/// A coarsened tree is reconstructed. A tree may be counted in either form, and only after a fence.
+pub fn coarsened_and_counted()
+    ensures counted { reading_of (codes "job 1 depth 1\nproject f const 1 level 1 tol 0\ncoarsen f\ncompress f\nfence\nsize f")
+        ≡ Ok (record {
+          depth = 1;
+          commands = Project (codes "f") (record { function = Const (pos 1); level = 1; tolerance = 0 })
+              ∷ Coarsen (codes "f") ∷ Compress (codes "f") ∷ Fence ∷ Size (codes "f") ∷ [];
+        }) }
+    ensures before_a_fence { reading_of (codes "job 1 depth 3\nproject f const 5 level 0 tol 0\nrefine f 3\ncoarsen f\nsize f") ≡ Err (record { line = 5; kind = SizeBeforeFence }) }
+    ensures coarsened_in_compressed_form { reading_of (codes "job 1 depth 1\nproject f const 1 level 1 tol 0\ncompress f\ncoarsen f") ≡ Err (record { line = 4; kind = WrongForm }) }
+    ensures words { reading_of (codes "job 1 depth 1\nproject f const 1 level 1 tol 0\ncoarsen f 1") ≡ Err (record { line = 3; kind = WrongWords }) }
+{}
+
 /// A version has the number of the command that writes it, and a fence ends itself.
 pub fn plans()
     ensures { plan_of (record {
@@ -134,9 +147,9 @@ pub fn canonical_texts()
     ensures { canonical_text (record {
       depth = 16;
       commands = Project (codes "f") (record { function = Hash 0 12; level = 0; tolerance = 7 })
-          ∷ Add (codes "s") (negsuc 9) (codes "f") (pos 0) (codes "f") ∷ Fence ∷ [];
+          ∷ Coarsen (codes "f") ∷ Add (codes "s") (negsuc 9) (codes "f") (pos 0) (codes "f") ∷ Fence ∷ Size (codes "s") ∷ [];
     })
-        ≡ codes "job 1 depth 16\nproject f hash 0 12 level 0 tol 7\nadd s = -10 f + 0 f\nfence\n" }
+        ≡ codes "job 1 depth 16\nproject f hash 0 12 level 0 tol 7\ncoarsen f\nadd s = -10 f + 0 f\nfence\nsize s\n" }
 {}
 
 /// The lines that tell faults.
@@ -148,5 +161,6 @@ pub fn fault_lines()
     ensures tree { fault_line (record { line = 1; kind = UnknownTree }) ≡ codes "fault line 1 F6 unknown tree" }
     ensures form { fault_line (record { line = 1; kind = WrongForm }) ≡ codes "fault line 1 F7 wrong form" }
     ensures fence { fault_line (record { line = 1; kind = FarFromFence }) ≡ codes "fault line 1 F8 too many before a fence" }
+    ensures size { fault_line (record { line = 5; kind = SizeBeforeFence }) ≡ codes "fault line 5 F9 size before a fence" }
     ensures header { fault_line (record { line = 1048577; kind = NoHeader }) ≡ codes "fault line 1048577 F2 header" }
 {}

@@ -28,6 +28,10 @@ pub enum Form {
         name: Name,
         level: i64,
     },
+    /// `coarsen NAME`
+    Coarsen {
+        name: Name,
+    },
     /// `compress NAME`
     Compress {
         name: Name,
@@ -57,6 +61,10 @@ pub enum Form {
     },
     /// `print NAME`
     Print {
+        name: Name,
+    },
+    /// `size NAME`
+    Size {
         name: Name,
     },
     /// `fence`
@@ -153,6 +161,10 @@ impl Form {
         match verb {
             Verb::Project => Form::project_of(words),
             Verb::Refine => Form::refine_of(words),
+            Verb::Coarsen => {
+                let name = one_name(words)?;
+                Some(Form::Coarsen { name })
+            }
             Verb::Compress => {
                 let name = one_name(words)?;
                 Some(Form::Compress { name })
@@ -170,6 +182,10 @@ impl Form {
             Verb::Print => {
                 let name = one_name(words)?;
                 Some(Form::Print { name })
+            }
+            Verb::Size => {
+                let name = one_name(words)?;
+                Some(Form::Size { name })
             }
             Verb::Fence => {
                 no_more(words)?;

@@ -184,10 +184,10 @@ fn prints_faults(rt: HostRuntime) -> Result<(), Fail> {
 
 // A job with each command, in a text that isn't canonical, and its canonical text.
 const LOOSE: &[u8] =
-    b"job 1  depth 02\n# a\n\nproject f const -0 level 1 tol 007\nproject g ramp -1 2 level 0 tol 0\nproject h box 0 2 -5 level 0 tol 0\nproject i step 3 -1 1 level 0 tol 0\nproject j hash 4294967295 16777216 level 0 tol 0\nrefine f 2\ncompress f\r\ncompress g\nadd s = -3 f + 04 g\ninner f\ts\nreconstruct s\nmul m = s * s\nfence\nprint m";
+    b"job 1  depth 02\n# a\n\nproject f const -0 level 1 tol 007\nproject g ramp -1 2 level 0 tol 0\nproject h box 0 2 -5 level 0 tol 0\nproject i step 3 -1 1 level 0 tol 0\nproject j hash 4294967295 16777216 level 0 tol 0\nrefine f 2\ncoarsen  f\ncompress f\r\ncompress g\nadd s = -3 f + 04 g\ninner f\ts\nreconstruct s\nmul m = s * s\nfence\nprint m\n\tsize m";
 
 const CANONICAL: &[u8] =
-    b"job 1 depth 2\nproject f const 0 level 1 tol 7\nproject g ramp -1 2 level 0 tol 0\nproject h box 0 2 -5 level 0 tol 0\nproject i step 3 -1 1 level 0 tol 0\nproject j hash 4294967295 16777216 level 0 tol 0\nrefine f 2\ncompress f\ncompress g\nadd s = -3 f + 4 g\ninner f s\nreconstruct s\nmul m = s * s\nfence\nprint m\n";
+    b"job 1 depth 2\nproject f const 0 level 1 tol 7\nproject g ramp -1 2 level 0 tol 0\nproject h box 0 2 -5 level 0 tol 0\nproject i step 3 -1 1 level 0 tol 0\nproject j hash 4294967295 16777216 level 0 tol 0\nrefine f 2\ncoarsen f\ncompress f\ncompress g\nadd s = -3 f + 4 g\ninner f s\nreconstruct s\nmul m = s * s\nfence\nprint m\nsize m\n";
 
 #[test]
 fn prints_canonical_texts(rt: HostRuntime) -> Result<(), Fail> {
@@ -203,18 +203,18 @@ fn plans_commands(rt: HostRuntime) -> Result<(), Fail> {
     let job = parse(rt.alloc(), LOOSE)?;
     let plan = plan(rt.alloc(), &job)?;
     let steps = plan.steps();
-    assert_eq!(rt; steps.len(), 14);
+    assert_eq!(rt; steps.len(), 16);
     let add = Step {
-        reads: Sources::Two(7, 8),
-        writes: Some(9),
+        reads: Sources::Two(8, 9),
+        writes: Some(10),
         fence: 1,
     };
-    assert_eq!(rt; steps[8], add);
+    assert_eq!(rt; steps[9], add);
     let print = Step {
-        reads: Sources::One(12),
+        reads: Sources::One(13),
         writes: None,
         fence: 2,
     };
-    assert_eq!(rt; steps[13], print);
+    assert_eq!(rt; steps[14], print);
     Ok(())
 }

@@ -7,12 +7,14 @@ ghost use Rattle.std.specs.Str.{bytes_eq};
 pub enum Verb {
     Project,
     Refine,
+    Coarsen,
     Compress,
     Reconstruct,
     Add,
     Mul,
     Inner,
     Print,
+    Size,
     Fence,
 }
 
@@ -34,6 +36,8 @@ impl Verb {
             Some(Verb::Project)
         } else if is_word(word, b"refine") {
             Some(Verb::Refine)
+        } else if is_word(word, b"coarsen") {
+            Some(Verb::Coarsen)
         } else if is_word(word, b"compress") {
             Some(Verb::Compress)
         } else if is_word(word, b"reconstruct") {
@@ -46,6 +50,8 @@ impl Verb {
             Some(Verb::Inner)
         } else if is_word(word, b"print") {
             Some(Verb::Print)
+        } else if is_word(word, b"size") {
+            Some(Verb::Size)
         } else if is_word(word, b"fence") {
             Some(Verb::Fence)
         } else {

@@ -30,6 +30,10 @@ pub returns-clause-fence : goal.returns-clause-fence
 unfolding digits
 returns-clause-fence c = refl
 
+pub returns-clause-size : goal.returns-clause-size
+unfolding digits
+returns-clause-size c = refl
+
 pub returns-clause-header : goal.returns-clause-header
 unfolding digits
 returns-clause-header c = refl
