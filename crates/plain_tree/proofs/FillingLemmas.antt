@@ -26,7 +26,7 @@ top_alone true false number there before holds is none = absurd (false≢true (h
 top_alone false true number there before holds is none = ap (λ n. over n before) (sym (none refl refl))
 top_alone false false number there before holds is none = refl
 
-same_is_under : (top k : Key) → same_key top k ≡ true → under top k ≡ true
+pub same_is_under : (top k : Key) → same_key top k ≡ true → under top k ≡ true
 same_is_under top k same = subst (λ (other : Key). under top other ≡ true) (same_key_holds top k same) (under_self top)
 
 -- just the top key has a number

@@ -10,11 +10,14 @@ pub mod NameLemmas
 pub mod RootLemmas
 pub mod WholeSumLemmas
 pub mod LeafFillingLemmas
+pub mod BelowFillingLemmas
+pub mod CoarseningLemmas
 pub mod RefiningLemmas
 pub mod LeafProductLemmas
 pub mod MultiplyingLemmas
 pub mod LeafValueLemmas
 pub mod PrintLemmas
+pub mod SizeLemmas
 pub mod FoundTreeLemmas
 pub mod VersionLemmas
 pub mod SerialLemmas

@@ -1,15 +1,15 @@
 -- A job's commands one after another: what the names stand for, the lines, and the first overflow.
-use Rattle.std.proofs.Common.{◌≡◌, ℕ, suc, ◌+◌, ◌<◌, List, [], ◌∷◌, ◌++◌, length, map, take, drop, get_or, true, false, cond, ◌&&◌, Some, sym, ◌∙◌, ap, subst, arith, append_assoc, append-nil, add-one}
+use Rattle.std.proofs.Common.{◌≡◌, ℕ, suc, ◌+◌, ◌<◌, List, [], ◌∷◌, ◌++◌, length, map, take, drop, get_or, true, false, cond, Some, sym, ◌∙◌, ap, subst, arith, append_assoc, append-nil, add-one}
 use Rattle.std.specs.List.{fold}
-use Rattle.std.proofs.lemmas.Bool.{and_parts, ltb-true}
 use Rattle.std.proofs.lemmas.List.{take_more, get_or-map, length-map, length-take}
 use Rattle.std.proofs.lemmas.List.Sums.{fold_push}
 use Rattle.std.proofs.Math.Seq.{drop-cons}
 use Rattle.tree_model.specs.Commands.{Command}
 use Rattle.tree_model.specs.Jobs.{command_lines, lines_from, overflow_from}
 use Rattle.tree_model.specs.Versions.{Versions, no_versions, after, versions_behind, command_overflows}
-use Rattle.job_data.specs.Checks.{is_within_limits, are_accepted, has_room, has_trees, has_forms, is_near_fence, max_commands}
+use Rattle.job_data.specs.Checks.{is_within_limits, are_accepted, max_commands}
 use Rattle.job_data.proofs.CheckLemmas.{accepted_at, are_accepted_at, follows_accepted}
+use Rattle.job_data.proofs.HistoryLemmas.{follows_length}
 
 -- the command at a place
 pub record IsAt (cs : List Command) (i : ℕ) (c : Command) : Type 0 where
@@ -72,7 +72,6 @@ few_before depth cs i c all is =
     let before = take i cs in
     let d = get_or cs i c in
     let follows = follows_accepted depth before d (are_accepted_at depth [] cs i c all is.below) in
-    let room = (and_parts (has_room before d) (has_trees before d && (has_forms before d && is_near_fence before d)) follows).0 in
-    let few = ltb-true (length before) max_commands (and_parts _ _ room).0 in
+    let few = follows_length before d follows in
     let below = is.below in
     omega (arith, few, length-take i cs)

@@ -38,7 +38,7 @@ pub record HasChildren (t : Tree) (k : Key) : Type 0 where
   pub right : t.shape (child k true) ≡ true
   pub above : k.level < t.depth
 
-some_or_nothing : (b : Bool) (x : ℤ) → cond b (Some x) None ≡ None → b ≡ false
+pub some_or_nothing : (b : Bool) (x : ℤ) → cond b (Some x) None ≡ None → b ≡ false
 some_or_nothing true x is = absurd (none-some x (sym is))
 some_or_nothing false x is = refl
 

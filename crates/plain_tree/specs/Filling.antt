@@ -2,7 +2,7 @@
 use Rattle.std.specs.Prelude.{◌≡◌, ◌-◌, ◌/◌, ◌^◌, Bool, ◌&&◌, ◌==◌, nat_le, Option, Some, None, ℤ, if◌then◌else◌}
 use Rattle.std.specs.BTreeMap.{BTreeMap}
 use Rattle.tree_key.specs.Keys.{Key}
-use Rattle.plain_tree.specs.Numbers.{number_at}
+use Rattle.plain_tree.specs.Numbers.{number_at, same_key}
 
 -- whether a key is the top one, or lies below it
 abbrev pub under : Key → Key → Bool
@@ -16,6 +16,10 @@ over (Some number) before = Some number
 -- the numbers at the top key and below it
 abbrev pub within : Key → (Key → Option ℤ) → Key → Option ℤ
 within top numbers k = if under top k then numbers k else None
+
+-- the numbers at other keys than the top one
+abbrev pub below : Key → (Key → Option ℤ) → Key → Option ℤ
+below top numbers k = if same_key top k then None else numbers k
 
 -- at the top key and below it, the map now has these numbers, where there is one; and else what it had
 pub record Fills (top : Key) (numbers : Key → Option ℤ) (old new : BTreeMap Key ℤ) : Type 0 where

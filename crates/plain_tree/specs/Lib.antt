@@ -9,3 +9,4 @@ pub mod StoredTrees
 pub mod Trees
 pub mod WholeSums
 pub mod Multiplied
+pub mod Coarsening

@@ -8,6 +8,7 @@
 #![tactic(auto)]
 
 mod adding;
+mod coarsening;
 mod command_error;
 mod compressing;
 mod inner_products;

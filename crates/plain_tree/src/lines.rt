@@ -113,6 +113,19 @@ pub fn add_tree(text: &mut Text, name: &[u8], kept: &StoredTree) -> Result<(), O
     }
 }
 
+/// Adds what `size` writes: the name of a tree, and the number of its keys.
+pub fn add_size(text: &mut Text, name: &[u8], size: usize) -> Result<(), OutOfMemory>
+    ensures { OnOk result (text.new
+        ≡ text.old ++ (codes "size " ++ name.now ++ codes " " ++ decimal size ++ codes "\n")) }
+{
+    let mut buffer = Buffer::new();
+    text.add(b"size ")?;
+    text.add(name)?;
+    text.add(b" ")?;
+    text.add(buffer.format(size).as_bytes())?;
+    text.add(b"\n")
+}
+
 /// Adds what `inner` writes: the names of two trees, and their inner product.
 pub fn add_inner(
     text: &mut Text,

@@ -2,16 +2,19 @@
 ghost use Rattle.std.specs.Prelude.{◌≡◌, ◌^◌, ◌≤◌, IfOk, Err, true, ℕ};
 ghost use Rattle.std.specs.Int.RustNames.{unsigned_abs};
 ghost use Rattle.tree_model.specs.Functions.{fits, max_depth};
-ghost use Rattle.tree_model.specs.Operations.{refined, weighted_sum, product, overflows};
+ghost use Rattle.tree_model.specs.Operations.{refined, coarsened, weighted_sum, product, overflows};
 ghost use Rattle.tree_model.specs.Products.{inner_product};
 ghost use Rattle.tree_model.specs.Project.{projected};
+ghost use Rattle.tree_model.specs.Shapes.{key_count};
 ghost use Rattle.tree_model.specs.Trees.{Tree};
+ghost use Rattle.tree_model.specs.Versions.{Version};
 ghost use Rattle.haar_node.specs.Func.{function_of};
 ghost use Rattle.plain_tree.specs.InnerProducts.{IsCompressed};
-ghost use Rattle.plain_tree.specs.StoredTrees.{IsReconstructed};
+ghost use Rattle.plain_tree.specs.StoredTrees.{IsReconstructed, KeepsForm};
 ghost use Rattle.plain_tree.specs.Projecting.{projection_of};
 
 use crate::adding::{Addends, Pair};
+use crate::coarsening::{coarsen_below, set_if_some};
 use crate::command_error::CommandError;
 use crate::compressing::compress_below;
 use crate::inner_products::inner_of;
@@ -20,7 +23,7 @@ use crate::numbers::Numbers;
 use crate::projecting::Projecting;
 use crate::reconstructing::reconstruct_below;
 use crate::refining::refine_below;
-use crate::stored::Compressed;
+use crate::stored::{Compressed, StoredTree};
 use haar_node::Func;
 use std::alloc::Global;
 use std::collections::BTreeMap;
@@ -58,6 +61,19 @@ pub fn refine(alloc: Global, leaves: &Numbers, level: u8) -> Result<Numbers, Out
 {
     let mut sums = BTreeMap::new(alloc);
     refine_below(leaves, level, Key::root(), None, &mut sums)?;
+    Ok(sums)
+}
+
+/// The leaves of a tree without the keys below those on whose box all values are the same.
+pub fn coarsen(alloc: Global, leaves: &Numbers) -> Result<Numbers, OutOfMemory>
+    requires { (t : Tree) × (depth : ℕ) × IsReconstructed t depth leaves.now }
+    ensures { IfOk result (λ coarser. (t : Tree) (depth : ℕ) →
+        IsReconstructed t depth leaves.now →
+        IsReconstructed (coarsened t) depth coarser) }
+{
+    let mut sums = BTreeMap::new(alloc);
+    let all = coarsen_below(leaves, Key::root(), &mut sums)?;
+    set_if_some(&mut sums, Key::root(), all)?;
     Ok(sums)
 }
 
@@ -157,6 +173,18 @@ pub fn multiply(
     let mut sums = BTreeMap::new(alloc);
     multiply_below(left, right, depth, Key::root(), None, None, &mut sums)?;
     Ok(sums)
+}
+
+/// The number of the keys of a tree: one fewer than twice its leaves, or one more than twice its keys with children.
+pub fn size(tree: &StoredTree) -> usize
+    requires { (depth : ℕ) × (version : Version) × KeepsForm depth version.form version.tree tree.now }
+    ensures { (depth : ℕ) (version : Version) → KeepsForm depth version.form version.tree tree.now →
+        result ≡ key_count version.tree.depth version.tree.shape }
+{
+    match tree {
+        StoredTree::Reconstructed(leaves) => 2 * leaves.len() - 1,
+        StoredTree::Compressed(tree) => 2 * tree.differences.len() + 1,
+    }
 }
 
 /// The inner product of two compressed trees of a depth.

@@ -152,6 +152,57 @@ fn a_tree_is_refined_and_multiplied(rt: HostRuntime) -> Result<(), Fail> {
     Ok(())
 }
 
+fn coarsen(bytes: &[u8]) -> Result<Command, Fail> {
+    let name = name(bytes)?;
+    Ok(Command::Coarsen { name })
+}
+
+fn size(bytes: &[u8]) -> Result<Command, Fail> {
+    let name = name(bytes)?;
+    Ok(Command::Size { name })
+}
+
+// Splits the tree of a function down to its cells, coarsens it, and prints it and its size in both forms.
+fn coarsened_job(alloc: Global, function: Func) -> Result<Vec<Command>, Fail> {
+    let to = name(b"f")?;
+    let mut commands = Vec::new(alloc);
+    commands.push(Command::Project {
+        name: to,
+        function,
+        level: 3,
+        tolerance: 0,
+    })?;
+    commands.push(coarsen(b"f")?)?;
+    commands.push(print(b"f")?)?;
+    commands.push(Command::Fence)?;
+    commands.push(size(b"f")?)?;
+    commands.push(compress(b"f")?)?;
+    commands.push(Command::Fence)?;
+    commands.push(size(b"f")?)?;
+    Ok(commands)
+}
+
+#[test]
+fn a_tree_is_coarsened_and_counted(rt: HostRuntime) -> Result<(), Fail> {
+    let constant = b"tree f reconstructed\n0 0 40\nsize f 1\nsize f 1\n".as_slice();
+    let halves = b"tree f reconstructed\n1 0 8\n1 1 -4\nsize f 3\nsize f 3\n".as_slice();
+    let quarters =
+        b"tree f reconstructed\n1 1 0\n2 0 0\n3 2 0\n3 3 8\nsize f 7\nsize f 7\n".as_slice();
+    let equal_sums =
+        b"tree f reconstructed\n1 0 0\n3 4 0\n3 5 3\n3 6 3\n3 7 0\nsize f 9\nsize f 9\n".as_slice();
+    let cases = [
+        (Func::Const(5), constant),
+        (Func::Step(4, 2, -1), halves),
+        (Func::Box(3, 4, 8), quarters),
+        (Func::Box(5, 7, 3), equal_sums),
+    ];
+    for (function, text) in cases {
+        let commands = coarsened_job(rt.alloc(), function)?;
+        expect(&rt, rt.alloc(), 3, commands, 0, text);
+    }
+    Ok(())
+}
+
 #[test]
 fn the_text_ends_at_the_first_overflow(rt: HostRuntime) -> Result<(), Fail> {
     let alloc = rt.alloc();

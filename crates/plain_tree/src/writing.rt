@@ -3,7 +3,7 @@ ghost use Rattle.std.specs.Prelude.{◌≡◌, ◌^◌, ◌≤◌, ◌++◌, ℕ
 ghost use Rattle.std.specs.Int.RustNames.{unsigned_abs};
 ghost use Rattle.std.specs.Option.{option_map};
 ghost use Rattle.job_words.specs.NameBytes.{bytes_of};
-ghost use Rattle.tree_model.specs.Commands.Command.{Refine, Compress, Reconstruct, Add, Mul, Inner, Print};
+ghost use Rattle.tree_model.specs.Commands.Command.{Refine, Coarsen, Compress, Reconstruct, Add, Mul, Inner, Print, Size};
 ghost use Rattle.tree_model.specs.Functions.{max_depth};
 ghost use Rattle.tree_model.specs.Jobs.{command_lines};
 ghost use Rattle.tree_model.specs.Signatures.{written_name};
@@ -14,8 +14,10 @@ ghost use Rattle.plain_tree.specs.StoredTrees.{Matches};
 ghost use Rattle.plain_tree.specs.Trees.{HasVersions};
 
 use crate::command_error::CommandError;
-use crate::lines::{add_inner, add_tree};
-use crate::operations::{add, compress, inner, multiply, project, reconstruct, refine};
+use crate::lines::{add_inner, add_size, add_tree};
+use crate::operations::{
+    add, coarsen, compress, inner, multiply, project, reconstruct, refine, size,
+};
 use crate::stored::StoredTree;
 use crate::trees::{Trees, both_compressed, both_leaves, compressed_of, leaves_of, tree_of};
 use job_data::Command;
@@ -38,6 +40,23 @@ fn refined(
 {
     match leaves_of(trees, name) {
         Some(leaves) => Ok(Some(StoredTree::Reconstructed(refine(alloc, leaves, level)?))),
+        None => Ok(None),
+    }
+}
+
+// What `coarsen` writes: the tree of the name without the keys below those on whose box all values are the same.
+fn coarsened(
+    alloc: Global,
+    depth: u8,
+    trees: &Trees<'_>,
+    name: &[u8],
+) -> Result<Option<StoredTree>, OutOfMemory>
+    requires { (versions : Versions) × HasVersions depth versions trees.now }
+    ensures { IfOk result (λ kept. (versions : Versions) → HasVersions depth versions trees.now →
+        Matches depth kept (written depth versions (Coarsen name.now))) }
+{
+    match leaves_of(trees, name) {
+        Some(leaves) => Ok(Some(StoredTree::Reconstructed(coarsen(alloc, leaves)?))),
         None => Ok(None),
     }
 }
@@ -161,6 +180,23 @@ fn add_printed_lines(
     }
 }
 
+// Adds the line of `size`.
+fn add_size_line(
+    depth: u8,
+    trees: &Trees<'_>,
+    name: &[u8],
+    text: &mut Text,
+) -> Result<(), OutOfMemory>
+    requires { (versions : Versions) × HasVersions depth versions trees.now }
+    ensures { OnOk result ((versions : Versions) → HasVersions depth versions trees.now →
+        text.new ≡ text.old ++ command_lines versions (Size name.now)) }
+{
+    match tree_of(trees, name) {
+        Some(kept) => add_size(text, name, size(kept)),
+        None => Ok(()),
+    }
+}
+
 /// What a command wrote.
 #[derive(Drop)]
 pub struct Written<'a> {
@@ -220,6 +256,10 @@ pub fn carry_out<'a>(
             let tree = refined(alloc, depth, trees, name.bytes(), *level)?;
             Ok(named(name, tree))
         }
+        Command::Coarsen { name } => {
+            let tree = coarsened(alloc, depth, trees, name.bytes())?;
+            Ok(named(name, tree))
+        }
         Command::Compress { name } => {
             let tree = compressed(alloc, depth, trees, name.bytes())?;
             Ok(named(name, tree))
@@ -260,6 +300,13 @@ pub fn carry_out<'a>(
         }
         Command::Print { name } => {
             add_printed_lines(depth, trees, name.bytes(), text)?;
+            Ok(Written {
+                name: None,
+                tree: None,
+            })
+        }
+        Command::Size { name } => {
+            add_size_line(depth, trees, name.bytes(), text)?;
             Ok(Written {
                 name: None,
                 tree: None,
