@@ -21,7 +21,7 @@ steps_same (suc n) (suc m) x few less = go (λ a b. steps_same n m (x / 2) a b) 
         (λ one. let e = le-ltb 1 x one in cond-false (nat_lt 1 x) (child (key_in n (x / 2)) (x % 2 == 1)) root e ∙ sym (cond-false (nat_lt 1 x) (child (key_in m (x / 2)) (x % 2 == 1)) root e))
 
 -- the key of a child's place
-child_at : (x y : ℕ) (side : Bool) → 1 ≤ x → y / 2 ≡ x → (y % 2 == 1) ≡ side → key_at y ≡ child (key_at x) side
+pub child_at : (x y : ℕ) (side : Bool) → 1 ≤ x → y / 2 ≡ x → (y % 2 == 1) ≡ side → key_at y ≡ child (key_at x) side
 child_at x zero side least half odd = absurd (omega (arith, least, half))
 child_at x (suc y) side least half odd =
     let lt : 1 < suc y = omega (arith, least, half) in

@@ -12,6 +12,7 @@ ghost use Rattle.app_core.specs.Inputs.{Fits, AreRightInputs};
 ghost use Rattle.app_core.specs.Outlines.{outlines};
 ghost use Rattle.haar_units.specs.Decisions.{DecidedStepsAreAllowed, DecidedStepsAreAllowedAnywhere};
 ghost use Rattle.haar_units.specs.Places.{PlacesHaveKeys, KeysHavePlaces, ShapesAreTraversals, MergesAreTraversals};
+ghost use Rattle.haar_units.specs.Distributions.{TotalsAreOfKeys, SizesAreOfRanks};
 ghost use Rattle.haar_units.specs.ListLaws.{RunsKeepTheLaws};
 ghost use Rattle.haar_units.specs.Bins.{BinsAreHeld, PlacesAreDifferent};
 
@@ -88,6 +89,13 @@ pub fn places_are_of_keys()
 pub fn shapes_are_traversals()
     ensures shapes { ShapesAreTraversals }
     ensures merges { MergesAreTraversals }
+{}
+
+/// The totals of the units are those of the model: a command comes to as many tasks and messages as the keys that it visits
+/// and erases, and `size` to as many as there are ranks.
+pub fn totals_are_of_keys()
+    ensures trees { TotalsAreOfKeys }
+    ensures sizes { SizesAreOfRanks }
 {}
 
 /// Whatever overflows, every run keeps the laws of `ListLaws` on labels, futures and entries, ready to cite.
