@@ -36,7 +36,7 @@ use Rattle.haar_units.proofs.UnitLemmas.{working, is_spawned_by, plan_is, is_amo
 
 -- places that pass a test
 
-in_places : (test : ℕ → Bool) (n x : ℕ) → x < n → test x ≡ true → Contains (places test n) x
+pub in_places : (test : ℕ → Bool) (n x : ℕ) → x < n → test x ≡ true → Contains (places test n) x
 in_places test zero x lt t = absurd (omega (arith, lt))
 in_places test (suc y) x lt t = go (λ l. in_places test y x l t) (test y) refl
   where
@@ -47,7 +47,7 @@ in_places test (suc y) x lt t = go (λ l. in_places test y x l t) (test y) refl
         (cases_eq y x)
     go rec false s = rec (⊎_elim (λ e. absurd (let z : false ≡ true = sym s ∙ ap test e ∙ t in cc)) (λ n. let apart = n in omega (arith, lt, apart)) (cases_eq y x))
 
-of_places : (test : ℕ → Bool) (n x : ℕ) → Contains (places test n) x → (test x ≡ true) × (x < n)
+pub of_places : (test : ℕ → Bool) (n x : ℕ) → Contains (places test n) x → (test x ≡ true) × (x < n)
 of_places test zero x (k, lt, e) = absurd (omega (arith, lt))
 of_places test (suc y) x h = go (of_places test y x) (test y) refl h
   where

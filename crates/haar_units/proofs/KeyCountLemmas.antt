@@ -49,7 +49,7 @@ some_place : (k : Key) → 1 ≤ place_of k
 some_place k = let some : 1 ≤ 2 ^ k.level = pow_mono {i = 0} {j = k.level} (omega arith) in omega (arith, some)
 
 -- a test of keys, at the place of a key
-at_place : (test : Key → Bool) (k : Key) → k.at < 2 ^ k.level → has_place test (place_of k) ≡ test k
+pub at_place : (test : Key → Bool) (k : Key) → k.at < 2 ^ k.level → has_place test (place_of k) ≡ test k
 at_place test k fits =
     let least = some_place k in
     (λ i. lt-ltb 0 (place_of k) (omega (arith, least)) i && test (keys_have_places k fits i))
@@ -88,7 +88,7 @@ module _ (test : Key → Bool) where
 
 -- what is counted of keys, at their places
 
-off_root : (test : Key → Bool) (x : ℕ) → 1 ≤ x → has_place test x ≡ test (key_at x)
+pub off_root : (test : Key → Bool) (x : ℕ) → 1 ≤ x → has_place test x ≡ test (key_at x)
 off_root test x least = λ i. lt-ltb 0 x (omega (arith, least)) i && test (key_at x)
 
 interior_at : (shape : Key → Bool) (x : ℕ) → (has_place shape x && has_place shape (2 * x)) ≡ has_place (is_interior shape) x
@@ -101,7 +101,7 @@ parent_at : (x : ℕ) → 1 < x → parent (key_at x) ≡ Some (key_at (x / 2))
 parent_at x more = ap parent (child_at (x / 2) x (x % 2 == 1) (omega (arith, more)) refl refl) ∙ parent_of_child (key_at (x / 2)) (x % 2 == 1)
 
 module _ (d : Distribution) (job : DistributedJob) (is : IsDistributed d job) where
-  owned : (x : ℕ) → 1 ≤ x → job.owner x ≡ d.owner (key_at x)
+  pub owned : (x : ℕ) → 1 ≤ x → job.owner x ≡ d.owner (key_at x)
   owned x least = is.owner x ∙ (λ i. if lt-ltb 0 x (omega (arith, least)) i then d.owner (key_at x) else 0)
 
   cut_at : (x : ℕ) → 1 ≤ x → changes_owner job x ≡ is_cut d.owner (key_at x)

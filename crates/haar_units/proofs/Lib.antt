@@ -3,6 +3,7 @@ pub mod DecisionLemmas
 pub mod EffectLemmas
 pub mod EntryLemmas
 pub mod FutureLemmas
+pub mod HeldKeyLemmas
 pub mod KeyCountLemmas
 pub mod LabelListLemmas
 pub mod LabelTreeLemmas

@@ -1,10 +1,6 @@
--- The keys of places, and traversals that visit the keys of a shape.
-use Rattle.std.specs.Prelude.{◌≡◌, ℕ, zero, suc, ◌+◌, ◌/◌, ◌%◌, ◌^◌, ◌<◌, ◌≤◌, nat_lt, Bool, false, ◌&&◌, ◌==◌, if◌then◌else◌, Some}
+-- The keys of places.
+use Rattle.std.specs.Prelude.{◌≡◌, ℕ, zero, suc, ◌/◌, ◌%◌, ◌^◌, ◌<◌, ◌≤◌, nat_lt, Bool, ◌&&◌, ◌==◌, if◌then◌else◌}
 use Rattle.tree_key.specs.Keys.{Key, root, child, place_of}
-use Rattle.tree_model.specs.Shapes.{IsShape}
-use Rattle.haar_units.specs.Jobs.{DistributedJob, operation_at}
-use Rattle.haar_units.specs.Jobs.Operation.{Coarsen}
-use Rattle.haar_units.specs.Traversals.{Traversal, IsTraversal}
 
 -- the key of a place, found by so many steps at most; the place has no more levels
 abbrev pub key_in : ℕ → ℕ → Key
@@ -25,18 +21,3 @@ KeysHavePlaces = (k : Key) → k.at < 2 ^ k.level → key_at (place_of k) ≡ k
 -- whether the key of a place is one of these; place 0 has no key
 abbrev pub has_place : (Key → Bool) → ℕ → Bool
 has_place keys place = nat_lt 0 place && keys (key_at place)
-
--- a command that visits the keys of a shape and erases none
-abbrev pub ShapesAreTraversals : Type 0
-ShapesAreTraversals =
-    (job : DistributedJob) (traversal : Traversal) (depth command : ℕ) (shape : Key → Bool) → IsShape depth shape
-    → ((place : ℕ) → traversal.visits command place ≡ has_place shape place) → ((place : ℕ) → traversal.erases command place ≡ false)
-    → IsTraversal job traversal (2 ^ (depth + 1)) command
-
--- a `coarsen` that visits the keys of a shape and erases the children of the keys of a kind
-abbrev pub MergesAreTraversals : Type 0
-MergesAreTraversals =
-    (job : DistributedJob) (traversal : Traversal) (depth command : ℕ) (shape merges : Key → Bool) → IsShape depth shape → operation_at job command ≡ Some Coarsen
-    → ((place : ℕ) → traversal.visits command place ≡ has_place shape place)
-    → ((place : ℕ) → traversal.erases command place ≡ (nat_lt 1 place && (has_place shape place && merges (key_at (place / 2)))))
-    → IsTraversal job traversal (2 ^ (depth + 1)) command

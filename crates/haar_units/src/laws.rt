@@ -11,8 +11,8 @@ ghost use Rattle.app_core.specs.Given.{Given};
 ghost use Rattle.app_core.specs.Inputs.{Fits, AreRightInputs};
 ghost use Rattle.app_core.specs.Outlines.{outlines};
 ghost use Rattle.haar_units.specs.Decisions.{DecidedStepsAreAllowed, DecidedStepsAreAllowedAnywhere};
-ghost use Rattle.haar_units.specs.Places.{PlacesHaveKeys, KeysHavePlaces, ShapesAreTraversals, MergesAreTraversals};
-ghost use Rattle.haar_units.specs.Distributions.{TotalsAreOfKeys, SizesAreOfRanks};
+ghost use Rattle.haar_units.specs.Places.{PlacesHaveKeys, KeysHavePlaces};
+ghost use Rattle.haar_units.specs.Distributions.{KeysAreTraversals, TotalsAreOfKeys, SizesAreOfRanks, HoldsAreOfKeys, CountsAddUp};
 ghost use Rattle.haar_units.specs.ListLaws.{RunsKeepTheLaws};
 ghost use Rattle.haar_units.specs.Bins.{BinsAreHeld, PlacesAreDifferent};
 
@@ -85,10 +85,15 @@ pub fn places_are_of_keys()
     ensures places { KeysHavePlaces }
 {}
 
-/// A command may visit the keys of a shape, and `coarsen` may erase the children of keys of a kind among them.
-pub fn shapes_are_traversals()
-    ensures shapes { ShapesAreTraversals }
-    ensures merges { MergesAreTraversals }
+/// A command may visit the keys of a shape, and `coarsen` may erase some of them, both children of a key or none.
+pub fn keys_are_traversals()
+    ensures { KeysAreTraversals }
+{}
+
+/// Each rank holds just the keys that it owns among those that are visited and not erased, and their numbers add up.
+pub fn holds_are_of_keys()
+    ensures keys { HoldsAreOfKeys }
+    ensures sum { CountsAddUp }
 {}
 
 /// The totals of the units are those of the model: a command comes to as many tasks and messages as the keys that it visits
