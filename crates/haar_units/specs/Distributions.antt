@@ -1,6 +1,6 @@
 -- Keys that are distributed over ranks, and commands that visit and erase sets of keys: what `tree_model` says of these sets is
 -- what the units of the commands do.
-use Rattle.std.specs.Prelude.{◌≡◌, ◌↔◌, ℕ, ◌+◌, ◌^◌, ◌<◌, nat_lt, Bool, true, false, ◌&&◌, not, ◌==◌, if◌then◌else◌, length, Some, Contains}
+use Rattle.std.specs.Prelude.{◌≡◌, ◌↔◌, ℕ, ◌+◌, ◌^◌, ◌<◌, ◌≤◌, nat_lt, Bool, true, false, ◌&&◌, not, ◌==◌, if◌then◌else◌, length, Some, Contains}
 use Rattle.tree_key.specs.Keys.{Key, root, child, place_of}
 use Rattle.owner_map.specs.declared.map.OwnerMap.{OwnerMap}
 use Rattle.owner_map.specs.Owners.{owner}
@@ -80,3 +80,10 @@ abbrev pub CountsAddUp : Type 0
 CountsAddUp =
     (distribution : Distribution) (depth : ℕ) (keys : Visits) → ((k : Key) → is_key_of depth k ≡ true → distribution.owner k < distribution.ranks)
     → sum_to (λ rank. key_count depth (is_kept distribution keys rank)) distribution.ranks ≡ key_count depth (λ k. keys.visited k && not (keys.erased k))
+
+-- by an owner map, rank 0 owns the root, and each key is owned by one of the ranks
+abbrev pub RootIsAtZero : Type 0
+RootIsAtZero = (map : OwnerMap) (ranks : ℕ) → 1 ≤ ranks → place_owner (by_map map ranks) 1 ≡ 0
+
+abbrev pub OwnersAreRanks : Type 0
+OwnersAreRanks = (map : OwnerMap) (ranks depth : ℕ) (k : Key) → 1 ≤ ranks → depth ≤ 16 → is_key_of depth k ≡ true → (by_map map ranks).owner k < ranks

@@ -12,7 +12,7 @@ ghost use Rattle.app_core.specs.Inputs.{Fits, AreRightInputs};
 ghost use Rattle.app_core.specs.Outlines.{outlines};
 ghost use Rattle.haar_units.specs.Decisions.{DecidedStepsAreAllowed, DecidedStepsAreAllowedAnywhere};
 ghost use Rattle.haar_units.specs.Places.{PlacesHaveKeys, KeysHavePlaces};
-ghost use Rattle.haar_units.specs.Distributions.{KeysAreTraversals, TotalsAreOfKeys, SizesAreOfRanks, HoldsAreOfKeys, CountsAddUp};
+ghost use Rattle.haar_units.specs.Distributions.{KeysAreTraversals, TotalsAreOfKeys, SizesAreOfRanks, HoldsAreOfKeys, CountsAddUp, RootIsAtZero, OwnersAreRanks};
 ghost use Rattle.haar_units.specs.ListLaws.{RunsKeepTheLaws};
 ghost use Rattle.haar_units.specs.Bins.{BinsAreHeld, PlacesAreDifferent};
 
@@ -94,6 +94,12 @@ pub fn keys_are_traversals()
 pub fn holds_are_of_keys()
     ensures keys { HoldsAreOfKeys }
     ensures sum { CountsAddUp }
+{}
+
+/// An owner map gives the root to rank 0, and each key to one of the ranks.
+pub fn maps_own_keys()
+    ensures root { RootIsAtZero }
+    ensures rank { OwnersAreRanks }
 {}
 
 /// The totals of the units are those of the model: a command comes to as many tasks and messages as the keys that it visits
