@@ -4,11 +4,13 @@ pub mod EffectLemmas
 pub mod EntryLemmas
 pub mod FutureLemmas
 pub mod HeldKeyLemmas
+pub mod JobTraversalLemmas
 pub mod KeyCountLemmas
 pub mod LabelListLemmas
 pub mod LabelTreeLemmas
 pub mod ListLawLemmas
 pub mod PlaceLemmas
+pub mod SerialTotalLemmas
 pub mod ShapeLemmas
 pub mod SmallJobLemmas
 pub mod StartLawLemmas
@@ -18,3 +20,4 @@ pub mod SumLemmas
 pub mod TotalLemmas
 pub mod UnitLemmas
 pub mod UnitSumLemmas
+pub mod VersionLemmas

@@ -314,10 +314,10 @@ module _ (job : DistributedJob) (traversal : Traversal) (bound : ℕ) (one : 1 �
       others : (f : ℕ → ℕ) (n : ℕ) → f 0 ≡ 0 → ((x : ℕ) → f (suc x) ≡ 1) → sum_to f n ≡ n - 1
       others f zero zero_is ones = refl
       others f (suc n) zero_is ones =
-          let with_put = sum_front f n in
+          let front = sum_front f n in
           let rest : sum_to (λ x. f (suc x)) n ≡ sum_to (λ x. 1) n = sum_ext (λ x. f (suc x)) (λ x. 1) n (λ x lt. ones x) in
           let long = sum_ones n in
-          omega (arith, with_put, rest, long, zero_is)
+          omega (arith, front, rest, long, zero_is)
 
       apart_from_zero : (x : ℕ) → one_if (not (0 == suc x)) ≡ 1
       apart_from_zero x = ap (λ (b : Bool). one_if (not b)) (ne_eqb 0 (suc x) (λ e. omega (arith, e)))
@@ -337,10 +337,10 @@ module _ (job : DistributedJob) (traversal : Traversal) (bound : ℕ) (one : 1 �
   count_sends c first zero s = omega arith
   count_sends c first (suc n) s =
       let rest = count_sends c (suc first) n s in
-      let with_put = sum_front (λ x. one_if (not (first + x == 0))) n in
+      let front = sum_front (λ x. one_if (not (first + x == 0))) n in
       let here : one_if (not (first + 0 == 0)) ≡ one_if (not (first == 0)) = let same : first + 0 ≡ first = omega arith in ap (λ (z : ℕ). one_if (not (z == 0))) same in
       let next : sum_to (λ x. one_if (not (first + suc x == 0))) n ≡ sum_to (λ x. one_if (not (suc first + x == 0))) n = sum_ext (λ x. one_if (not (first + suc x == 0))) (λ x. one_if (not (suc first + x == 0))) n (λ x lt. let same : first + suc x ≡ suc first + x = omega arith in ap (λ (z : ℕ). one_if (not (z == 0))) same) in
-      omega (arith, rest, with_put, here, next)
+      omega (arith, rest, front, here, next)
 
   -- of one command: the messages of its starts, and of its units
   abbrev start_messages : ℕ → Option Operation → ℕ
@@ -366,10 +366,10 @@ module _ (job : DistributedJob) (traversal : Traversal) (bound : ℕ) (one : 1 �
       ranks_but_one : (f : ℕ → ℕ) (n : ℕ) → f 0 ≡ 0 → ((x : ℕ) → f (suc x) ≡ 1) → sum_to f n ≡ n - 1
       ranks_but_one f zero zero_is ones = refl
       ranks_but_one f (suc n) zero_is ones =
-          let with_put = sum_front f n in
+          let front = sum_front f n in
           let rest : sum_to (λ x. f (suc x)) n ≡ sum_to (λ x. 1) n = sum_ext (λ x. f (suc x)) (λ x. 1) n (λ x lt. ones x) in
           let long = sum_ones n in
-          omega (arith, with_put, rest, long, zero_is)
+          omega (arith, front, rest, long, zero_is)
 
   module _ (of : ℕ → Bool) (traversals : (c : ℕ) (w : Operation) → of c ≡ true → operation_at job c ≡ Some w → is_on_trees w ≡ true → IsTraversal job traversal bound c) where
     abbrev Test : ℕ → ℕ → ℕ → Bool

@@ -82,7 +82,7 @@ none_sent (suc (suc f)) = refl
 abbrev pub start_sum : (ℕ → List Outline) → ℕ → List CommandKind → ℕ → ℕ → ℕ
 start_sum starts b ks f i = if nat_lt (fences_before (suc i) ks) f then sends_of 0 (starts (b + i)) else 0
 
-both_more : (a e : ℕ) → nat_lt (suc a) (suc e) ≡ nat_lt a e
+pub both_more : (a e : ℕ) → nat_lt (suc a) (suc e) ≡ nat_lt a e
 both_more a e = go (nat_lt a e) refl
   where
     go : (b : Bool) → nat_lt a e ≡ b → nat_lt (suc a) (suc e) ≡ b
@@ -96,19 +96,19 @@ starts_sent starts b (k ∷ ks) zero quiet = sym (sum_none (start_sum starts b (
 starts_sent starts b (Work ∷ ks) (suc e) quiet =
     let rest = starts_sent starts (suc b) ks (suc e) (λ i at. let next : b + suc i ≡ suc b + i = omega arith in subst (λ (n : ℕ). sends_of 0 (starts n) ≡ 0) next (quiet (suc i) at)) in
     let here = sends_append e (starts b) (program_from (suc b) ks starts) in
-    let with_put = sum_front (start_sum starts b (Work ∷ ks) (suc e)) (length ks) in
+    let front = sum_front (start_sum starts b (Work ∷ ks) (suc e)) (length ks) in
     let first : start_sum starts b (Work ∷ ks) (suc e) 0 ≡ sends_of 0 (starts b) = pick (nat_lt 0 (suc e)) (sends_of 0 (starts (b + 0))) 0 (lt-ltb 0 (suc e) (omega arith)) ∙ (let same : b + 0 ≡ b = omega arith in ap (λ (n : ℕ). sends_of 0 (starts n)) same) in
     let others : sum_to (λ i. start_sum starts b (Work ∷ ks) (suc e) (suc i)) (length ks) ≡ sum_to (start_sum starts (suc b) ks (suc e)) (length ks) =
     sum_ext (λ i. start_sum starts b (Work ∷ ks) (suc e) (suc i)) (start_sum starts (suc b) ks (suc e)) (length ks) (λ i lt. let next : b + suc i ≡ suc b + i = omega arith in ap (λ (n : ℕ). if nat_lt (fences_before (suc i) ks) (suc e) then sends_of 0 (starts n) else 0) next) in
-    here ∙ ap (λ (n : ℕ). sends_of 0 (starts b) + n) rest ∙ sym (with_put ∙ (λ i. first i + others i))
+    here ∙ ap (λ (n : ℕ). sends_of 0 (starts b) + n) rest ∙ sym (front ∙ (λ i. first i + others i))
 starts_sent starts b (Fence ∷ ks) (suc e) quiet =
     let rest = starts_sent starts (suc b) ks e (λ i at. let next : b + suc i ≡ suc b + i = omega arith in subst (λ (n : ℕ). sends_of 0 (starts n) ≡ 0) next (quiet (suc i) at)) in
-    let with_put = sum_front (start_sum starts b (Fence ∷ ks) (suc e)) (length ks) in
+    let front = sum_front (start_sum starts b (Fence ∷ ks) (suc e)) (length ks) in
     let first : start_sum starts b (Fence ∷ ks) (suc e) 0 ≡ 0 = no_more (nat_lt (fences_before 1 (Fence ∷ ks)) (suc e)) (sends_of 0 (starts (b + 0))) (quiet 0 refl) in
     let others : sum_to (λ i. start_sum starts b (Fence ∷ ks) (suc e) (suc i)) (length ks) ≡ sum_to (start_sum starts (suc b) ks e) (length ks) =
     sum_ext (λ i. start_sum starts b (Fence ∷ ks) (suc e) (suc i)) (start_sum starts (suc b) ks e) (length ks)
     (λ i lt. let next : b + suc i ≡ suc b + i = omega arith in (λ j. if both_more (fences_before (suc i) ks) e j then sends_of 0 (starts (next j)) else 0)) in
-    rest ∙ sym (with_put ∙ (λ i. first i + others i) ∙ zero_more (sum_to (start_sum starts (suc b) ks e) (length ks)))
+    rest ∙ sym (front ∙ (λ i. first i + others i) ∙ zero_more (sum_to (start_sum starts (suc b) ks e) (length ks)))
   where
     no_more : (b : Bool) (n : ℕ) → n ≡ 0 → (if b then n else 0) ≡ 0
     no_more true n e = e

@@ -6,6 +6,7 @@ pub mod Jobs
 pub mod LabelLists
 pub mod Laws
 pub mod ListLaws
+pub mod ModelJobs
 pub mod Places
 pub mod SmallJob
 pub mod Starts

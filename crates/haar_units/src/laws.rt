@@ -13,6 +13,7 @@ ghost use Rattle.app_core.specs.Outlines.{outlines};
 ghost use Rattle.haar_units.specs.Decisions.{DecidedStepsAreAllowed, DecidedStepsAreAllowedAnywhere};
 ghost use Rattle.haar_units.specs.Places.{PlacesHaveKeys, KeysHavePlaces};
 ghost use Rattle.haar_units.specs.Distributions.{KeysAreTraversals, TotalsAreOfKeys, SizesAreOfRanks, HoldsAreOfKeys, CountsAddUp, RootIsAtZero, OwnersAreRanks};
+ghost use Rattle.haar_units.specs.ModelJobs.{JobsAreTraversed, HoldsAreTrees, SizesAddUp, TotalsAreSerial, FencesHaveNumbers};
 ghost use Rattle.haar_units.specs.ListLaws.{RunsKeepTheLaws};
 ghost use Rattle.haar_units.specs.Bins.{BinsAreHeld, PlacesAreDifferent};
 
@@ -112,4 +113,18 @@ pub fn totals_are_of_keys()
 /// Whatever overflows, every run keeps the laws of `ListLaws` on labels, futures and entries, ready to cite.
 pub fn runs_keep_the_laws<A: Facts>()
     ensures { (app : A) → RunsKeepTheLaws (A.may_do app) }
+{}
+
+/// The commands of a job visit shapes. Of a version each rank holds just the keys of its tree that the rank owns, and their
+/// numbers add up to the number of the tree's keys.
+pub fn jobs_are_traversed()
+    ensures shapes { JobsAreTraversed }
+    ensures holds { HoldsAreTrees }
+    ensures sizes { SizesAddUp }
+{}
+
+/// Up to each fence, the units of a job have as many messages and tasks as the receipts of the model say.
+pub fn totals_are_serial()
+    ensures totals { TotalsAreSerial }
+    ensures fences { FencesHaveNumbers }
 {}
