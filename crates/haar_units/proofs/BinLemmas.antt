@@ -1,5 +1,5 @@
 -- The bins hold, of the version that a command writes, the entries of the keys that it visits and doesn't erase.
-use Rattle.std.proofs.Common.{◌≡◌, ◌≢◌, ◌⊎◌, ℕ, zero, suc, ◌*◌, ◌<◌, ◌≤◌, Bool, true, false, not, ◌&&◌, List, ◌∷◌, refl, sym, ap, ◌∙◌, subst, ⊎_elim, arith}
+use Rattle.std.proofs.Common.{◌≡◌, ◌≢◌, ◌⊎◌, ℕ, zero, suc, ◌+◌, ◌*◌, ◌<◌, ◌≤◌, Bool, true, false, not, ◌&&◌, List, ◌∷◌, refl, sym, ap, ◌∙◌, subst, ⊎_elim, arith}
 use Rattle.std.specs.Prelude.{if◌then◌else◌, ◌==◌, ◌↔◌, Some, slice_get, slice_index_or, Contains, Option, None}
 use Rattle.std.specs.List.{All}
 use Rattle.std.proofs.lemmas.Bool.{both_ways, and_parts, and_from, or_cases, cases_eq, eqb-true, eq-eqb, cond-true, cond-false, not-true, false_from_ne_true, not_from_false}
@@ -32,6 +32,7 @@ use Rattle.haar_units.specs.Laws.{MayIsAllowed, stage}
 use Rattle.haar_units.proofs.EffectLemmas.{some_is}
 use Rattle.haar_units.proofs.LabelTreeLemmas.{tree, staged, of_fence}
 use Rattle.haar_units.proofs.EntryLemmas.{put_is, Puts, where_all, in_place, above_it, puts_how, erase_is, puts_once}
+use Rattle.haar_units.proofs.BoundLemmas.{wider, holds_same}
 use Rattle.haar_units.proofs.UnitLemmas.{working, is_spawned_by, plan_is, is_among, among_is, plan_allowed, known}
 
 -- places that pass a test
@@ -248,8 +249,19 @@ writer_is job version command e = by_option (operation_at job version) refl e
         by_test true t e = let same : version ≡ command = some_is version command e in record { operation = w; at = sym (ap (operation_at job) same) ∙ at; writing = t; is = sym same }
         by_test false t e = absurd (cc)
 
+-- the same with other lists that are equal
+bins_as : (ranks version : ℕ) (h g : ℕ → ℕ → List ℕ) (log : List Mark) → ((rank : ℕ) → h rank version ≡ g rank version) → BinsHold ranks h version log → BinsHold ranks g version log
+bins_as ranks version h g log same holds l place lt bin =
+    let both = holds l place lt bin in (
+      (λ p. let r = both.0 p in (subst (λ (z : List ℕ). Contains z place) (same l.rank) r.0, r.1)),
+      (λ r. both.1 (subst (λ (z : List ℕ). Contains z place) (sym (same l.rank)) r.0, r.1)),
+    )
+
 pub bins_held : (may : Label → List Outline → Type 0) → BinsAreHeld may
-bins_held may job within traversal bound ranks two version command writer k exact workers task_effects log before x r run has early =
+bins_held may job within traversal bound version command writer k exact workers task_effects log before x r run has early =
+    let more : bound ≤ bound + job.ranks + 2 = omega arith in
     let w = writer_is job version command writer in
+    let wide = held job may within traversal (bound + job.ranks + 2) (omega arith) (omega arith) command w.operation w.at w.writing (wider job traversal bound (bound + job.ranks + 2) command more k) exact workers task_effects log before x r run has early in
+    let same : (rank : ℕ) → holds job traversal (bound + job.ranks + 2) rank command ≡ holds job traversal bound rank command = λ rank. holds_same job traversal bound command k rank (bound + job.ranks + 2) more in
     subst (λ (v : ℕ). BinsHold job.ranks (holds job traversal bound) v before × BinsHold job.ranks (holds job traversal bound) v log) w.is
-    (held job may within traversal bound ranks two command w.operation w.at w.writing k exact workers task_effects log before x r run has early)
+    (bins_as job.ranks command (holds job traversal (bound + job.ranks + 2)) (holds job traversal bound) before same wide.0, bins_as job.ranks command (holds job traversal (bound + job.ranks + 2)) (holds job traversal bound) log same wide.1)

@@ -1,4 +1,5 @@
 pub mod BinLemmas
+pub mod BoundLemmas
 pub mod DecisionLemmas
 pub mod EffectLemmas
 pub mod EntryLemmas

@@ -23,11 +23,12 @@ use Rattle.haar_units.specs.Actions.{puts_first, rest_of}
 use Rattle.haar_units.specs.Actions.Action.{Stop, Descend, Combine, Merge}
 use Rattle.haar_units.specs.Traversals.{Traversal, IsTraversal, MayIsPlanned, action_of, plan, plan_if, is_spawned, is_spawned_of, is_spawned_if, units}
 use Rattle.haar_units.specs.Laws.{MayIsAllowed, stage}
-use Rattle.haar_units.specs.Totals.{sum_to, one_if, count_below, changes_owner, tasks_of, messages_of, of_operation, total_by, total_of}
+use Rattle.haar_units.specs.Totals.{sum_to, one_if, count_below, changes_owner, tasks_of, messages_of, of_operation, total_by, total_of, ReceiptsCountTheTotals}
 use Rattle.haar_units.proofs.EffectLemmas.{some_is}
 use Rattle.haar_units.proofs.StartLemmas.{sum_start}
 use Rattle.haar_units.proofs.LabelTreeLemmas.{tree, staged}
 use Rattle.haar_units.proofs.UnitLemmas.{known}
+use Rattle.haar_units.proofs.BoundLemmas.{wider, total_same}
 use Rattle.haar_units.proofs.SumLemmas.{sum_ext, sum_add, sum_none, sum_front, sum_short, sum_pairs, sum_ones, sum_below, drop_it}
 use Rattle.haar_units.proofs.UnitSumLemmas.{weigh, sends_weigh, length_weighs, part_sum, five, weigh_listed, start_sum, starts_sent}
 
@@ -540,3 +541,10 @@ module _ (job : DistributedJob) (may : Label → List Outline → Type 0) (withi
     told =
         all_counted job.ranks workers (program job) may task_effects log before x r run has (apart job.ranks workers (program job) may task_effects log run parent (tree job may within)) (stage job) (staged job may within) (plan job traversal) (home job) us are_units
         ∙ (λ i. (messages_are i, tasks_are i))
+
+-- with any bound
+pub receipts_count : (may : Label → List Outline → Type 0) → ReceiptsCountTheTotals may
+receipts_count may job within one root traversal bound workers task_effects log before x r run has each exact =
+    told job may within one root traversal (bound + job.ranks + 2) (omega arith) (omega arith) workers task_effects log before x r run has
+    (λ c w early at tree. wider job traversal bound (bound + job.ranks + 2) c (omega arith) (each c w early at tree)) exact
+    ∙ total_same job traversal bound (bound + job.ranks + 2) (omega arith) r.fence each

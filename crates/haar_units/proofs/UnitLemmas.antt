@@ -21,6 +21,7 @@ use Rattle.haar_units.proofs.EffectLemmas.{some_is, none_is, by_rest, offset, fi
 use Rattle.haar_units.proofs.StartLemmas.{IsStart, of_root, of_count, of_sum, root_there, count_there, sum_there}
 use Rattle.haar_units.proofs.LabelTreeLemmas.{Starting, starting, command_stays}
 use Rattle.haar_units.proofs.FutureLemmas.{places}
+use Rattle.haar_units.proofs.BoundLemmas.{wider}
 use Rattle.haar_units.proofs.LabelListLemmas.{listed_apart, listed_passes, passes_listed}
 
 -- the kind of a command, by its operation
@@ -344,18 +345,6 @@ module _ (job : DistributedJob) (may : Label → List Outline → Type 0) (trave
       at_home : (u : Label) (q : ℕ) → Comes (program job) may u q → q ≡ home job u
       at_home u q (started k _ d ns _ at) = ((places job may within).starts k u d ns q at).0
       at_home u q (spawned p rank os i _ d ns _ c m at) = ((places job may within).steps p os i u d ns q m at).0
-
--- a traversal with places below a bound has them below a larger one
-wider : (job : DistributedJob) (traversal : Traversal) (bound more command : ℕ) → bound ≤ more → IsTraversal job traversal bound command → IsTraversal job traversal more command
-wider job traversal bound more command le k = record {
-  visits_below = λ place v. let b = k.visits_below place v in (b.0, let lt = b.1 in omega (arith, lt, le));
-  root = k.root;
-  parents = k.parents;
-  children = k.children;
-  erases_in_coarsen = k.erases_in_coarsen;
-  erases_visited = k.erases_visited;
-  erases_both = k.erases_both;
-}
 
 -- the planned units do what is allowed
 pub plans_allowed : PlansAreAllowed

@@ -1,5 +1,5 @@
 -- Which entries of a version each rank holds after the version's command.
-use Rattle.std.specs.Prelude.{◌≡◌, ℕ, zero, suc, ◌≤◌, Bool, ◌&&◌, ◌||◌, not, ◌==◌, if◌then◌else◌, List, [], ◌∷◌, Option, Some, None}
+use Rattle.std.specs.Prelude.{◌≡◌, ℕ, zero, suc, Bool, ◌&&◌, ◌||◌, not, ◌==◌, if◌then◌else◌, List, [], ◌∷◌, Option, Some, None}
 use Rattle.app_core.specs.declared.label.Label.{Label}
 use Rattle.app_core.specs.declared.outline.Outline.{Outline}
 use Rattle.event_lists.specs.declared.receipt.Receipt.{Receipt}
@@ -40,8 +40,7 @@ holds job traversal bound rank version = places (is_held job traversal rank vers
 -- writes, if the units of this command do what is planned, whatever other commands do
 abbrev pub BinsAreHeld : (Label → List Outline → Type 0) → Type 0
 BinsAreHeld may =
-    (job : DistributedJob) → MayIsAllowed job may → (traversal : Traversal) (bound : ℕ) → job.ranks ≤ bound → 2 ≤ bound
-    → (version command : ℕ) → writer_of job version ≡ Some command → IsTraversal job traversal bound command → MayIsPlanned job traversal may command
+    (job : DistributedJob) → MayIsAllowed job may → (traversal : Traversal) (bound version command : ℕ) → writer_of job version ≡ Some command → IsTraversal job traversal bound command → MayIsPlanned job traversal may command
     → (workers : ℕ) (task_effects : TaskEffects) (log before : List Mark) (x : Mark) (r : Receipt) → IsRun job.ranks workers (program job) may task_effects log → HasReceipt log before x r
     → IsBefore (kinds job) command r.fence
     → BinsHold job.ranks (holds job traversal bound) version before × BinsHold job.ranks (holds job traversal bound) version log

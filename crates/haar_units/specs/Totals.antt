@@ -60,8 +60,7 @@ total_of job traversal bound fence = (total_by job (messages_of job traversal bo
 -- up to these numbers
 abbrev pub ReceiptsCountTheTotals : (Label → List Outline → Type 0) → Type 0
 ReceiptsCountTheTotals may =
-    (job : DistributedJob) → MayIsAllowed job may → 1 ≤ job.ranks → job.owner 1 ≡ 0 → (traversal : Traversal) (bound : ℕ) → job.ranks ≤ bound → 2 ≤ bound
-    → (workers : ℕ) (task_effects : TaskEffects) (log before : List Mark) (x : Mark) (r : Receipt) → IsRun job.ranks workers (program job) may task_effects log → HasReceipt log before x r
+    (job : DistributedJob) → MayIsAllowed job may → 1 ≤ job.ranks → job.owner 1 ≡ 0 → (traversal : Traversal) (bound workers : ℕ) (task_effects : TaskEffects) (log before : List Mark) (x : Mark) (r : Receipt) → IsRun job.ranks workers (program job) may task_effects log → HasReceipt log before x r
     → ((command : ℕ) (operation : Operation) → fences_before command (kinds job) < r.fence → operation_at job command ≡ Some operation → is_on_trees operation ≡ true → IsTraversal job traversal bound command)
     → ((command : ℕ) (operation : Operation) → fences_before command (kinds job) < r.fence → operation_at job command ≡ Some operation → MayIsPlanned job traversal may command)
     → all_told r ≡ total_of job traversal bound r.fence
