@@ -1,6 +1,7 @@
 pub mod BinLemmas
 pub mod BoundLemmas
 pub mod DecisionLemmas
+pub mod DropLemmas
 pub mod EffectLemmas
 pub mod EntryLemmas
 pub mod FutureLemmas

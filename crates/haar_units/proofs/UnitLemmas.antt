@@ -30,7 +30,7 @@ kind_at [] c w e = absurd (cc)
 kind_at (v ∷ operations) zero w e = ap (λ (z : Operation). Some (kind_of z)) (some_is v w e)
 kind_at (v ∷ operations) (suc c) w e = kind_at operations c w e
 
-there_below : (operations : List Operation) (c : ℕ) (w : Operation) → slice_get operations c ≡ Some w → c < length operations
+pub there_below : (operations : List Operation) (c : ℕ) (w : Operation) → slice_get operations c ≡ Some w → c < length operations
 there_below [] c w e = absurd (cc)
 there_below (v ∷ operations) zero w e = omega arith
 there_below (v ∷ operations) (suc c) w e = let lt = there_below operations c w e in omega (arith, lt)

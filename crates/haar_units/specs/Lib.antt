@@ -2,6 +2,7 @@ pub mod Actions
 pub mod Bins
 pub mod Decisions
 pub mod Distributions
+pub mod Drops
 pub mod Jobs
 pub mod LabelLists
 pub mod Laws

@@ -14,6 +14,7 @@ ghost use Rattle.haar_units.specs.Decisions.{DecidedStepsAreAllowed, DecidedStep
 ghost use Rattle.haar_units.specs.Places.{PlacesHaveKeys, KeysHavePlaces};
 ghost use Rattle.haar_units.specs.Distributions.{KeysAreTraversals, TotalsAreOfKeys, SizesAreOfRanks, HoldsAreOfKeys, CountsAddUp, RootIsAtZero, OwnersAreRanks};
 ghost use Rattle.haar_units.specs.ModelJobs.{JobsAreTraversed, HoldsAreTrees, SizesAddUp, TotalsAreSerial, FencesHaveNumbers};
+ghost use Rattle.haar_units.specs.Drops.{DroppedIsWritten, DroppedStaysUnread, DropsComeOnce, UsedUpIsDropped};
 ghost use Rattle.haar_units.specs.ListLaws.{RunsKeepTheLaws};
 ghost use Rattle.haar_units.specs.Bins.{BinsAreHeld, PlacesAreDifferent};
 
@@ -127,4 +128,12 @@ pub fn jobs_are_traversed()
 pub fn totals_are_serial()
     ensures totals { TotalsAreSerial }
     ensures fences { FencesHaveNumbers }
+{}
+
+/// A version is dropped at the first fence that comes after its command and all commands that read it, once.
+pub fn versions_are_dropped_once()
+    ensures written { DroppedIsWritten }
+    ensures unread { DroppedStaysUnread }
+    ensures once { DropsComeOnce }
+    ensures all { UsedUpIsDropped }
 {}
