@@ -1,6 +1,12 @@
 -- A small job for examples that were computed by hand. A tree of the keys 1, 2, 3, 6 and 7 is projected; it is coarsened, which
 -- erases 6 and 7; after a fence its keys are counted. There are two ranks, and rank 1 owns the keys 2 and 7.
-use Rattle.std.specs.Prelude.{ℕ, Bool, List, ◌&&◌, ◌||◌, nat_lt, ◌==◌, if◌then◌else◌, [], ◌∷◌}
+use Rattle.std.specs.Prelude.{ℕ, Bool, List, ◌&&◌, ◌||◌, nat_lt, ◌==◌, if◌then◌else◌, [], ◌∷◌, pos, codes}
+use Rattle.owner_map.specs.declared.map.OwnerMap.TheVariants.{Spread}
+use Rattle.tree_model.specs.Commands.{Command}
+use Rattle.tree_model.specs.Functions.Function.{Const}
+use Rattle.tree_model.specs.Totals.{Distribution}
+use Rattle.haar_units.specs.Distributions.{by_map}
+use Rattle.haar_units.specs.Drops.{Readers}
 use Rattle.haar_units.specs.Jobs.{Operation, DistributedJob}
 use Rattle.haar_units.specs.Jobs.Operation.{Project, Refine, Coarsen, Compress, Reconstruct, Add, Mul, Inner, Print, Size, Fence}
 use Rattle.haar_units.specs.Traversals.{Traversal}
@@ -18,3 +24,16 @@ small_traversal = record { visits = λ command place. nat_lt command 3 && is_key
 -- each operation, in the order of their definition
 abbrev pub all_operations : List Operation
 all_operations = Project ∷ Refine ∷ Coarsen ∷ Compress ∷ Reconstruct ∷ Add ∷ Mul ∷ Inner ∷ Print ∷ Size ∷ Fence ∷ []
+
+-- `coarsen` reads the projected tree, and `size` the coarsened one
+abbrev pub small_readers : Readers
+small_readers command version = ((command == 2) && (version == 1)) || ((command == 4) && (version == 2))
+
+-- the same commands as a job of the model, on a tree of all seven keys of depth 2 with one value, and two ranks
+abbrev pub seven_keys : List Command
+seven_keys =
+    Command.Project (codes "f") (record { function = Const (pos 5); level = 2; tolerance = 0 }) ∷ Command.Coarsen (codes "f") ∷ Command.Fence
+    ∷ Command.Size (codes "f") ∷ []
+
+abbrev pub spread_ranks : Distribution
+spread_ranks = by_map Spread 2

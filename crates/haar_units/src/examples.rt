@@ -2,7 +2,8 @@
 //!
 //! `small_job` projects a tree of the keys 1, 2, 3, 6 and 7, coarsens it, which erases 6 and 7, and after a fence counts
 //! its keys. There are two ranks, and rank 1 owns the keys 2 and 7.
-ghost use Rattle.std.specs.Prelude.{◌≡◌, ℕ, ◌≤◌, true, false, List, [], ◌∷◌, ◌==◌, map, Some, None};
+ghost use Rattle.std.specs.Prelude.{◌≡◌, ℕ, ◌≤◌, true, false, List, [], ◌∷◌, ◌==◌, length, map, Some, None};
+ghost use Rattle.std.specs.List.{range_with_len};
 ghost use Rattle.app_core.specs.declared.outline.Outline.{Outline as OutlineData};
 ghost use Rattle.app_core.specs.declared.outline.Outline.TheVariants as of;
 ghost use Rattle.app_core.specs.declared.outline.CommandKind.TheVariants as is;
@@ -17,7 +18,12 @@ ghost use Rattle.haar_units.specs.Laws.{stage};
 ghost use Rattle.haar_units.specs.Totals.{total_of};
 ghost use Rattle.tree_key.specs.Keys.{root};
 ghost use Rattle.haar_units.specs.Places.{key_at, has_place};
-ghost use Rattle.haar_units.specs.SmallJob.{all_operations, small_job, small_traversal};
+ghost use Rattle.haar_units.specs.SmallJob.{all_operations, small_job, small_traversal, small_readers, spread_ranks, seven_keys};
+ghost use Rattle.haar_units.specs.Jobs.Operation.{Project, Coarsen, Size, Fence};
+ghost use Rattle.haar_units.specs.Drops.{dropped_of};
+ghost use Rattle.haar_units.specs.Distributions.{place_owner};
+ghost use Rattle.haar_units.specs.ModelJobs.{distributed, traversal_of, before_fence};
+ghost use Rattle.tree_model.specs.Totals.{total_of as serial_total};
 
 /// The labels of units and futures, and the names of entries, by their numbers.
 fn labels_have_parts()
@@ -199,4 +205,35 @@ fn some_lists_are_not_allowed()
     ensures no_fence { (part place : ℕ) (os : List OutlineData) → Allowed small_job (label 3 part place) os → ⊥ }
     ensures no_parts { (part place : ℕ) (os : List OutlineData) → 5 ≤ part → Allowed small_job (label 2 part place) os → ⊥ }
     ensures no_place { (os : List OutlineData) → Allowed small_job (down_unit 2 0) os → ⊥ }
+{}
+
+/// A version is dropped at the first fence after all that read it. Version 1 is read by `coarsen`, version 2 by `size`; or
+/// both by `size`; or none by any.
+fn versions_are_dropped()
+    ensures first { dropped_of small_job small_readers 1 ≡ 1 ∷ [] }
+    ensures end { dropped_of small_job small_readers 2 ≡ 2 ∷ [] }
+    ensures before { dropped_of small_job small_readers 0 ≡ [] }
+    ensures later { dropped_of small_job small_readers 3 ≡ [] }
+    ensures read_later { dropped_of small_job (λ command version. command == 4) 1 ≡ [] }
+    ensures both { dropped_of small_job (λ command version. command == 4) 2 ≡ 1 ∷ 2 ∷ [] }
+    ensures unread { dropped_of small_job (λ command version. false) 1 ≡ 1 ∷ 2 ∷ [] }
+{}
+
+/// A job of the model: a tree of all seven keys at depth 2 is projected, and coarsened to its root; after a fence its keys
+/// are counted. Two ranks own keys by `spread`: rank 1 owns the keys 2, 5 and 7. `project` has 7 + 3 tasks and sends 6
+/// messages, for the keys 2, 4 and 7; `coarsen` has 7 + 3 + 6 and sends 9; `size` has 3 and sends 2.
+fn a_job_of_the_model()
+    ensures operations { (distributed spread_ranks seven_keys).operations ≡ Project ∷ Coarsen ∷ Fence ∷ Size ∷ [] }
+    ensures owners { map (place_owner spread_ranks) (range_with_len 0 8) ≡ 0 ∷ 0 ∷ 1 ∷ 0 ∷ 0 ∷ 1 ∷ 0 ∷ 1 ∷ [] }
+    ensures visits { map ((traversal_of 2 seven_keys).visits 2) (range_with_len 0 9) ≡ false ∷ true ∷ true ∷ true ∷ true ∷ true ∷ true ∷ true ∷ false ∷ [] }
+    ensures erases { map ((traversal_of 2 seven_keys).erases 2) (range_with_len 0 9) ≡ false ∷ false ∷ true ∷ true ∷ true ∷ true ∷ true ∷ true ∷ false ∷ [] }
+    ensures projected { holds (distributed spread_ranks seven_keys) (traversal_of 2 seven_keys) 8 1 1 ≡ 7 ∷ 5 ∷ 2 ∷ [] }
+    ensures coarsened { holds (distributed spread_ranks seven_keys) (traversal_of 2 seven_keys) 8 0 2 ≡ 1 ∷ [] }
+    ensures first_fence { total_of (distributed spread_ranks seven_keys) (traversal_of 2 seven_keys) 8 1 ≡ (15, 26) }
+    ensures end { total_of (distributed spread_ranks seven_keys) (traversal_of 2 seven_keys) 8 2 ≡ (17, 29) }
+    ensures serial_first { serial_total spread_ranks 2 (before_fence 1 seven_keys) ≡ record { messages = 15; tasks = 26 } }
+    ensures serial_end { serial_total spread_ranks 2 (before_fence 2 seven_keys) ≡ record { messages = 17; tasks = 29 } }
+    ensures before_first { length (before_fence 1 seven_keys) ≡ 2 }
+    ensures before_end { length (before_fence 2 seven_keys) ≡ 4 }
+    ensures before_none { length (before_fence 0 seven_keys) ≡ 0 }
 {}
