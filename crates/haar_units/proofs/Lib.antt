@@ -6,6 +6,7 @@ pub mod EffectLemmas
 pub mod EntryLemmas
 pub mod FutureLemmas
 pub mod HeldKeyLemmas
+pub mod JobLawLemmas
 pub mod JobTraversalLemmas
 pub mod KeyCountLemmas
 pub mod LabelListLemmas

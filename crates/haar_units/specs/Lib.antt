@@ -3,6 +3,7 @@ pub mod Bins
 pub mod Decisions
 pub mod Distributions
 pub mod Drops
+pub mod JobLaws
 pub mod Jobs
 pub mod LabelLists
 pub mod Laws

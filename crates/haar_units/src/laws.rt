@@ -15,6 +15,7 @@ ghost use Rattle.haar_units.specs.Places.{PlacesHaveKeys, KeysHavePlaces};
 ghost use Rattle.haar_units.specs.Distributions.{KeysAreTraversals, TotalsAreOfKeys, SizesAreOfRanks, HoldsAreOfKeys, CountsAddUp, RootIsAtZero, OwnersAreRanks};
 ghost use Rattle.haar_units.specs.ModelJobs.{JobsAreTraversed, HoldsAreTrees, SizesAddUp, TotalsAreSerial, FencesHaveNumbers};
 ghost use Rattle.haar_units.specs.Drops.{DroppedIsWritten, DroppedStaysUnread, DropsComeOnce, UsedUpIsDropped};
+ghost use Rattle.haar_units.specs.JobLaws.{JobBinsAreHeld, JobReceiptsAreSerial};
 ghost use Rattle.haar_units.specs.ListLaws.{RunsKeepTheLaws};
 ghost use Rattle.haar_units.specs.Bins.{BinsAreHeld, PlacesAreDifferent};
 
@@ -136,4 +137,11 @@ pub fn versions_are_dropped_once()
     ensures unread { DroppedStaysUnread }
     ensures once { DropsComeOnce }
     ensures all { UsedUpIsDropped }
+{}
+
+/// At the receipt of a fence of a job of the model: the bins hold the versions that are written before it, each node on the
+/// owner of its key, and the rows add up to the messages and tasks that the model's receipts have at this fence.
+pub fn jobs_hold_and_count<A: Facts>()
+    ensures bins { (app : A) → JobBinsAreHeld (A.may_do app) }
+    ensures totals { (app : A) → JobReceiptsAreSerial (A.may_do app) }
 {}
