@@ -1,5 +1,6 @@
 pub mod BinLemmas
 pub mod BoundLemmas
+pub mod CommandTotalLemmas
 pub mod DecisionLemmas
 pub mod DropLemmas
 pub mod EffectLemmas
