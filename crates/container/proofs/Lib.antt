@@ -1,0 +1,5 @@
+pub mod ChangeLemmas
+pub mod LookUpLemmas
+pub mod MapLemmas
+pub mod RightLemmas
+pub mod VersionLemmas

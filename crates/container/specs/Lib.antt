@@ -1,0 +1,6 @@
+pub mod BinState
+pub mod LookUps
+pub mod Names
+pub mod Refusals
+pub mod RightBins
+pub mod VersionEntries
