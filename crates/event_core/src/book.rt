@@ -1,31 +1,33 @@
 //! Books: what each lane of a run wrote.
-ghost use Rattle.std.specs.Prelude.{◌≡◌};
+ghost use Rattle.std.specs.Prelude.{◌≡◌, ◌<◌, ◌↔◌, [], length, reverse, slice_get, Some, IsTrue};
 ghost use Rattle.event_core.specs.Books.{IsBook};
 
 use event_lists::{Event, LaneName};
+use lane_trace::LaneTrace;
 use std::marker::Model;
 
-/// A lane with its events, in order.
+/// A lane with its events, in order: the trace that the lane kept.
 #[derive(Drop)]
 pub struct LanePart {
     lane: LaneName,
-    events: Vec<Event>,
+    trace: LaneTrace,
 }
 
 impl Model for LanePart {
+    ghost use Rattle.std.specs.Prelude.{reverse};
     ghost use Rattle.event_core.specs.Books.{PartData};
 
     ghost Value = { PartData };
 
-    ghost view = { λ p. record { lane = p.lane; events = p.events.items } };
+    ghost view = { λ p. record { lane = p.lane; events = reverse p.trace.events } };
 }
 
 impl LanePart {
-    /// This lane with these events, which are moved in.
-    pub fn new(lane: LaneName, events: Vec<Event>) -> LanePart
-        ensures { result ≡ record { lane = lane; events = events.items } }
+    /// This lane with the events of this trace, which is moved in.
+    pub fn new(lane: LaneName, trace: LaneTrace) -> LanePart
+        ensures { result ≡ record { lane = lane; events = reverse trace.events } }
     {
-        LanePart { lane, events }
+        LanePart { lane, trace }
     }
 
     pub fn lane(&self) -> LaneName
@@ -34,18 +36,33 @@ impl LanePart {
         self.lane
     }
 
-    /// The events, in order.
-    pub fn events(&self) -> &[Event]
-        ensures { result.now ≡ self.now.events }
+    /// How many events there are.
+    pub fn len(&self) -> usize
+        ensures { result ≡ length self.now.events }
     {
-        &self.events
+        self.trace.len()
     }
 
-    /// The events, moved out.
-    pub fn into_events(self) -> Vec<Event>
-        ensures { result.items ≡ self.events }
+    /// Whether there are none.
+    pub fn is_empty(&self) -> bool
+        ensures { IsTrue result ↔ (self.now.events ≡ []) }
     {
-        self.events
+        self.trace.len() == 0
+    }
+
+    /// The event at an index, from 0 for the oldest.
+    pub fn event_at(&self, index: usize) -> Event
+        requires { index < length self.now.events }
+        ensures { slice_get self.now.events index ≡ Some result }
+    {
+        self.trace.event_at(index)
+    }
+
+    /// The trace, moved out.
+    pub fn into_trace(self) -> LaneTrace
+        ensures { reverse result.events ≡ self.events }
+    {
+        self.trace
     }
 }
 

@@ -1,6 +1,9 @@
-use Rattle.std.proofs.Common.{rules}
+use Rattle.std.proofs.Common.{rules, ◌≡◌, [], ◌∷◌, ap, reverse}
+use Rattle.event_lists.specs.declared.event.Event.TheVariants.{Enter}
 use Rattle.event_core.proofs.tests.books.a_book_gives_back_its_parts.Goals as goal
 use Rattle.event_core.proofs.LonePartLemmas.{are_book}
 
 pub new-book-requires : goal.new-book-requires
-new-book-requires g c = are_book 1 c.push-2.new.self.items c.new.result c.push.new.self.items (search rules) (search rules) (search rules)
+new-book-requires g c =
+    let entered : c.enter.new.self.events ≡ Enter 1 ∷ [] = cc in
+    are_book 1 c.push.new.self.items c.new.result (reverse c.enter.new.self.events) (search rules) (search rules) (ap reverse entered)
