@@ -1,6 +1,6 @@
-// What a seat of the table knows.
+//! What a seat of the table has and knows. No value of a view is made: the table's rule and contracts speak of it.
 ghost use Rattle.std.specs.Prelude.{◌≡◌};
-ghost use Rattle.world_rule.specs.Views.{item_in};
+ghost use Rattle.world_rule.specs.Owing.{item_in};
 
 use app_core::Outline;
 use event_lists::{EffectName, Event, Item, LaneName, Mark, Parcel, TaskName};
@@ -48,27 +48,46 @@ pub struct OwnPart {
     pub events: LinkedList<Event>,
 }
 
-/// The outline of the task in hand, in order, and how many of its effects were carried out or drawn.
-pub struct Begun {
+/// How far the task in hand is: the outlines of its effects, in order, and how many of them were carried out or drawn.
+pub struct Progress {
     pub rank: u32,
     pub number: u64,
     pub outlines: LinkedList<Outline>,
     pub at: u64,
 }
 
-/// No value of it is made. A lane's seat has its own part, a carrier's has an item, and one that only tells has neither.
+/// The looks of a lane at one count of a rank: how many there were, and what the last one found, 0 before the first.
+pub struct CountLooks {
+    pub rank: u32,
+    pub times: u64,
+    pub found: u64,
+}
+
+/// The view of a seat. A lane's seat has the lane's own part; a carrier's owes something; one that tells has neither.
 pub struct View {
+    /// Its lanes.
     pub parts: LinkedList<OwnPart>,
-    // How the list of events began, the newest first.
+
+    /// How the list of events began, the newest first.
     pub seen: LinkedList<Mark>,
-    // The same, as another seat knew it that was joined to this one since the last step.
+
+    /// The same, as another seat knew it that was joined to this one since its last step.
     pub told: LinkedList<Mark>,
-    // What was counted and is not yet taken, or an effect that was drawn.
+
+    /// What was counted and is not yet taken, or an effect that was drawn.
     pub owes: Option<Owed>,
-    // The task in hand, once it was begun.
-    pub doing: Option<Begun>,
-    // It set the stop word.
-    pub stops: bool,
-    // It found the stop word set.
-    pub found: bool,
+
+    /// How far the task in hand is, once it was begun.
+    pub progress: Option<Progress>,
+
+    /// It set the stop word.
+    pub set_stop: bool,
+
+    /// How often it looked at the stop word, and whether the last look found it set.
+    pub stop_looks: u64,
+    pub saw_stop: bool,
+
+    /// Its looks at a count of tasks that ran, and at one of tasks submitted.
+    pub ran_looks: CountLooks,
+    pub submitted_looks: CountLooks,
 }

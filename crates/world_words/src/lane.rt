@@ -1,45 +1,70 @@
-// A lane, and what goes from one lane to another.
+//! A lane, and what goes from one lane to another.
+ghost use Rattle.std.specs.Prelude.{◌≡◌};
+
 use atomic_table::Seat;
 use event_lists::{Item, LaneName};
 use std::marker::Model;
-use world_rule::view::{Pending, View};
+use world_rule::view::View;
 
-/// The seat of one hand or bin, with the names of what it has in hand and of what it owes.
+/// The lane of one hand or bin: a seat of the table.
+///
+/// The seat itself takes no memory. Contracts see the lane's own events, what it has seen of all events, what it owes and
+/// how far its task is.
 #[derive(Drop)]
 pub struct Lane {
     pub(crate) seat: Seat<(), View>,
     pub(crate) name: LaneName,
     pub(crate) hand: Option<Item>,
-    pub(crate) owes: Option<Pending>,
+    pub(crate) owes: Option<Item>,
     pub(crate) spare: u64,
 }
 
 impl Model for Lane {
-    ghost use Rattle.world_words.specs.Lanes.{LaneView, IsLaneSeat};
     ghost use Rattle.world_rule.specs.Views.{own_events};
+    ghost use Rattle.world_words.specs.Lanes.{LaneView};
+    ghost use Rattle.world_words.specs.Seats.{IsLaneSeat};
 
     ghost Value = { LaneView };
 
-    ghost view = { λ l. record { table = l.seat.table_id; name = l.name; mine = own_events l.seat.me.0.parts; seen = l.seat.me.0.seen; owes = l.seat.me.0.owes; doing = l.seat.me.0.doing; stops = l.seat.me.0.stops; found = l.seat.me.0.found; spare = l.spare } };
+    ghost view = { λ l. record {
+        table = l.seat.table_id; name = l.name; mine = own_events l.seat.me.0.parts; seen = l.seat.me.0.seen; owes = l.seat.me.0.owes; progress = l.seat.me.0.progress;
+        set_stop = l.seat.me.0.set_stop; stop_looks = l.seat.me.0.stop_looks; saw_stop = l.seat.me.0.saw_stop; ran_looks = l.seat.me.0.ran_looks; submitted_looks = l.seat.me.0.submitted_looks; spare = l.spare } };
 
     ghost invariant = { λ l. IsLaneSeat l.seat.table_id l.name l.hand l.owes l.spare l.seat.me };
 }
 
-/// A seat that carries a counted message or task, or a drawn effect.
+impl Lane {
+    /// The name of the lane.
+    pub fn name(&self) -> LaneName
+        ensures { result ≡ self.now.name }
+    {
+        self.name
+    }
+
+    /// How many events it may still append.
+    pub fn spare(&self) -> u64
+        ensures { result ≡ self.now.spare }
+    {
+        self.spare
+    }
+}
+
+/// A seat that carries one counted message or task, or one drawn effect, to the lane that takes it.
 #[derive(Drop)]
 pub struct Carrier {
     pub(crate) seat: Seat<(), View>,
-    pub(crate) pending: Pending,
+    pub(crate) item: Option<Item>,
 }
 
 impl Model for Carrier {
-    ghost use Rattle.world_words.specs.Lanes.{Packed, IsCarrier, the_owed};
+    ghost use Rattle.world_words.specs.Lanes.{CarrierView};
+    ghost use Rattle.world_words.specs.Seats.{IsCarrier, the_owed};
 
-    ghost Value = { Packed };
+    ghost Value = { CarrierView };
 
     ghost view = { λ c. record { table = c.seat.table_id; seen = c.seat.me.0.seen; owed = the_owed c.seat.me.0.owes } };
 
-    ghost invariant = { λ c. IsCarrier c.pending c.seat.me };
+    ghost invariant = { λ c. IsCarrier c.item c.seat.me };
 }
 
 /// A seat that carries what a lane knew.
@@ -50,27 +75,29 @@ pub struct Told {
 
 impl Model for Told {
     ghost use Rattle.std.specs.Prelude.{None};
-    ghost use Rattle.world_words.specs.Lanes.{Known, IsPassive};
+    ghost use Rattle.world_words.specs.Lanes.{ToldView};
+    ghost use Rattle.world_words.specs.Seats.{IsPassive};
 
-    ghost Value = { Known };
+    ghost Value = { ToldView };
 
     ghost view = { λ c. record { table = c.seat.table_id; seen = c.seat.me.0.seen } };
 
     ghost invariant = { λ c. IsPassive None c.seat.me };
 }
 
-/// The seat that has the lanes which nobody has. At the end it has all of them again.
+/// The seat that has the lanes which nobody has. At the end it has all of them again, with their events.
 #[derive(Drop)]
 pub struct Root {
     pub(crate) seat: Seat<(), View>,
 }
 
 impl Model for Root {
-    ghost use Rattle.world_words.specs.Lanes.{RootView, IsRootSeat};
+    ghost use Rattle.world_words.specs.Lanes.{RootView};
+    ghost use Rattle.world_words.specs.Seats.{IsRootSeat};
 
     ghost Value = { RootView };
 
-    ghost view = { λ c. record { table = c.seat.table_id; parts = c.seat.me.0.parts; seen = c.seat.me.0.seen } };
+    ghost view = { λ c. record { table = c.seat.table_id; parts = c.seat.me.0.parts; seen = c.seat.me.0.seen; set_stop = c.seat.me.0.set_stop; saw_stop = c.seat.me.0.saw_stop } };
 
     ghost invariant = { λ c. IsRootSeat c.seat.me };
 }

@@ -1,8 +1,8 @@
-use crate::{Words, meet, serve, start};
+use crate::Words;
+use crate::examples::{meet, serve, start};
 use app_core::{Facts, Label};
 use event_lists::{Item, LaneName};
 use std::test::Fail;
-use world_rule::view::Pending;
 
 // An application with one command, whose only start is a unit at rank 1 without effects.
 struct Pair;
@@ -57,15 +57,9 @@ fn a_unit_goes_to_another_rank(rt: HostRuntime) -> Result<(), Fail> {
     let mut one = words.lane(&mut root, FIRST);
     let mut two = words.lane(&mut root, SECOND);
     let carrier = start(&words, &mut one, 1, UNIT);
-    let Pending::Counted(Item::Message { rank, number }) = carrier.pending else {
-        return Ok(());
-    };
-    assert_eq!(rt; (rank, number), (0, 0));
-    let task = serve(&words, &mut two, carrier, rank, number, UNIT);
-    assert_eq!(rt;
-        task.pending,
-        Pending::Counted(Item::Task { rank: 1, number: 0 })
-    );
+    assert_eq!(rt; carrier.item, Some(Item::Message { rank: 0, number: 0 }));
+    let task = serve(&words, &mut two, carrier, UNIT);
+    assert_eq!(rt; task.item, Some(Item::Task { rank: 1, number: 0 }));
     let (one, two) = meet(&rt, &words, one, two);
     words.fold(&mut root, one);
     words.fold(&mut root, two);

@@ -1,6 +1,8 @@
-use Rattle.event_lists.specs.declared.event.Event.TheVariants.{Receipt as Receives}
 use Rattle.std.specs.Prelude.{None}
+use Rattle.world_rule.specs.Owing.{no_event}
+use Rattle.world_rule.specs.Views.{no_lane, no_task, no_outline}
+use Rattle.event_lists.specs.declared.event.Event.TheVariants.{Receipt as Receives}
 use Rattle.world_words.proofs.words.Words.mark_receipt.Given as goal
 
-abbrev pub ghosts-look_as : goal.ghosts-look_as
-ghosts-look_as g a = record { ranks = a.self.now.ranks; workers = a.self.now.workers; program = a.self.now.program; may = g.A.Facts.may_do a.self.now.app; lane = a._name; event = Receives a._large.now; effect = None }
+abbrev pub ghosts-load_event : goal.ghosts-load_event
+ghosts-load_event g a = record { ranks = a.self.now.ranks; workers = a.self.now.workers; program = a.self.now.program; may = g.A.Facts.may_do a.self.now.app; lane = a._name; event = Receives a._large.now; effect = None; task = no_task; outline = no_outline }

@@ -1,6 +1,10 @@
-use Rattle.event_lists.specs.declared.event.Event.TheVariants.{Ran}
 use Rattle.std.specs.Prelude.{None}
+use Rattle.world_rule.specs.Owing.{no_event}
+use Rattle.world_rule.specs.Views.{no_lane, no_task, no_outline}
+use Rattle.event_lists.specs.Events.{in_hand}
+use Rattle.world_rule.specs.Owing.{ended}
+use Rattle.world_rule.specs.Views.{own_events}
 use Rattle.world_words.proofs.words.Words.ran.Given as goal
 
-abbrev pub ghosts-add_as : goal.ghosts-add_as
-ghosts-add_as g a = record { ranks = a.self.now.ranks; workers = a.self.now.workers; program = a.self.now.program; may = g.A.Facts.may_do a.self.now.app; lane = a._name; event = Ran 0 a._small a._large.now; effect = None }
+abbrev pub ghosts-add_event : goal.ghosts-add_event
+ghosts-add_event g a = record { ranks = a.self.now.ranks; workers = a.self.now.workers; program = a.self.now.program; may = g.A.Facts.may_do a.self.now.app; lane = a._name; event = ended 0 (in_hand (own_events a.seat.now.me.0.parts)); effect = None; task = no_task; outline = no_outline }
