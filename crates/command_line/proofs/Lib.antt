@@ -1,0 +1,4 @@
+pub mod RuleLemmas
+pub mod SettingLemmas
+pub mod WalkLemmas
+pub mod MatchLemmas

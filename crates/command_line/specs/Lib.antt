@@ -1,0 +1,4 @@
+pub mod Settings
+pub mod Values
+pub mod Requests
+pub mod Parsing

@@ -1,0 +1,44 @@
+-- What the words of a command line ask for.
+use Rattle.std.specs.Prelude.{List, [], ◌∷◌, Option, Some, None, codes, option_and_then, if◌then◌else◌}
+use Rattle.std.specs.Option.{option_map}
+use Rattle.std.specs.Str.{bytes_eq}
+use Rattle.command_line.specs.Settings.{Word, Form, Setting, read_settings, value_of, has}
+use Rattle.command_line.specs.Values.{ranks_of, map_of, number_of}
+use Rattle.command_line.specs.declared.request.Request.{Request}
+use Rattle.command_line.specs.declared.request.Request.TheVariants.{Run, Serial, Check, BigJob}
+
+-- `serial [--ranks N] [--map M] [--receipts]`
+abbrev pub serial_form : Form
+serial_form = record { options = codes "ranks" ∷ codes "map" ∷ []; flags = codes "receipts" ∷ []; word = None }
+
+abbrev pub serial_request : List Setting → Option Request
+serial_request settings =
+    option_and_then (λ ranks. option_map (λ map. Serial ranks map (has serial_form (codes "receipts") settings))
+    (map_of (value_of serial_form (codes "map") settings))) (ranks_of (value_of serial_form (codes "ranks") settings))
+
+-- `big N --job`
+abbrev pub big_form : Form
+big_form = record { options = []; flags = codes "job" ∷ []; word = Some (codes "number") }
+
+abbrev pub big_request : List Setting → Option Request
+big_request settings =
+    if has big_form (codes "job") settings then option_map BigJob (number_of (value_of big_form (codes "number") settings)) else None
+
+-- a command that takes nothing
+abbrev pub alone : Request → List Word → Option Request
+alone request [] = Some request
+alone request (word ∷ rest) = None
+
+-- the request of a command, which the first word names
+abbrev pub command_request : Word → List Word → Option Request
+command_request command rest =
+    if bytes_eq command (codes "run") then alone Run rest
+    else if bytes_eq command (codes "serial") then option_and_then serial_request (read_settings serial_form rest)
+    else if bytes_eq command (codes "check") then alone Check rest
+    else if bytes_eq command (codes "big") then option_and_then big_request (read_settings big_form rest)
+    else None
+
+-- what the words after the program's name ask for; words that are in no form ask for nothing
+abbrev pub request_of : List Word → Option Request
+request_of [] = None
+request_of (command ∷ rest) = command_request command rest
