@@ -1,11 +1,9 @@
 -- A receipt counts the tasks and messages of the commands before its fence.
-use Rattle.std.proofs.Common.{◌≡◌, ℕ, zero, suc, ◌+◌, ◌-◌, ◌*◌, ◌/◌, ◌<◌, ◌≤◌, Bool, true, false, not, ◌&&◌, List, [], ◌∷◌, ◌++◌, length, refl, sym, ap, ◌∙◌, subst, ⊎_elim, arith}
-use Rattle.std.specs.Prelude.{if◌then◌else◌, nat_lt, ◌==◌, Option, Some, None, map, slice_get}
-use Rattle.std.proofs.lemmas.Bool.{and_parts, cases_lt, lt-ltb, ltb-true, ltb-false, eq-eqb, ne_eqb, eqb-true, eqb-false, false_from_ne_true}
+use Rattle.std.proofs.Common.{◌≡◌, ℕ, zero, suc, ◌+◌, ◌<◌, ◌≤◌, Bool, true, ◌&&◌, List, [], ◌∷◌, length, refl, sym, ap, ◌∙◌, arith}
+use Rattle.std.specs.Prelude.{if◌then◌else◌, nat_lt, Option, Some, None, map, slice_get}
+use Rattle.std.proofs.lemmas.Bool.{lt-ltb, ltb-true}
 use Rattle.app_core.specs.declared.label.Label.{Label}
-use Rattle.app_core.specs.declared.label.CellName.{CellName}
 use Rattle.app_core.specs.declared.outline.Outline.{Outline}
-use Rattle.app_core.specs.declared.outline.Outline.TheVariants as told_as
 use Rattle.app_core.specs.declared.outline.CommandKind.TheVariants as is
 use Rattle.event_lists.specs.declared.receipt.Receipt.{Receipt}
 use Rattle.event_lists.specs.declared.mark.Mark.{Mark}
@@ -15,22 +13,19 @@ use Rattle.event_laws.specs.Stages.{Comes, started, spawned, AsPlanned, AreUnits
 use Rattle.event_laws.specs.Totals.{sends_of, unit_sends, start_sends}
 use Rattle.event_laws.proofs.SourceLemmas.{apart}
 use Rattle.event_laws.proofs.TotalLemmas.{all_counted}
-use Rattle.haar_units.specs.Jobs.{Operation, DistributedJob, operation_at, kind_of, kinds, is_on_trees, is_size, is_coarsen}
-use Rattle.haar_units.specs.Units.{label, key_future, entry, future_home, parent, home, home_of}
-use Rattle.haar_units.specs.Starts.{program, starts, starts_if, count_starts}
-use Rattle.haar_units.specs.Jobs.Operation.{Coarsen, Size, Fence}
-use Rattle.haar_units.specs.Actions.{puts_first, rest_of}
-use Rattle.haar_units.specs.Actions.Action.{Stop, Descend, Combine, Merge}
-use Rattle.haar_units.specs.Traversals.{Traversal, IsTraversal, MayIsPlanned, action_of, plan, plan_if, is_spawned, is_spawned_of, is_spawned_if, units}
+use Rattle.haar_units.specs.Jobs.{Operation, DistributedJob, operation_at, kind_of, kinds, is_on_trees}
+use Rattle.haar_units.specs.Units.{label, parent, home}
+use Rattle.haar_units.specs.Starts.{program, starts, starts_if}
+use Rattle.haar_units.specs.Jobs.Operation.{Fence}
+use Rattle.haar_units.specs.Traversals.{Traversal, IsTraversal, MayIsPlanned, plan, is_spawned, is_spawned_if, units}
 use Rattle.haar_units.specs.Laws.{MayIsAllowed, stage}
-use Rattle.haar_units.specs.Totals.{sum_to, one_if, count_below, changes_owner, tasks_of, messages_of, of_operation, total_by, total_of, ReceiptsCountTheTotals}
+use Rattle.haar_units.specs.Totals.{sum_to, tasks_of, messages_of, of_operation, total_by, total_of, ReceiptsCountTheTotals}
 use Rattle.haar_units.proofs.EffectLemmas.{some_is}
-use Rattle.haar_units.proofs.StartLemmas.{sum_start}
 use Rattle.haar_units.proofs.LabelTreeLemmas.{tree, staged}
 use Rattle.haar_units.proofs.UnitLemmas.{known}
 use Rattle.haar_units.proofs.BoundLemmas.{wider, total_same}
-use Rattle.haar_units.proofs.SumLemmas.{sum_ext, sum_add, sum_none, sum_front, sum_short, sum_pairs, sum_ones, sum_below, drop_it}
-use Rattle.haar_units.proofs.UnitSumLemmas.{weigh, sends_weigh, length_weighs, part_sum, five, weigh_listed, start_sum, starts_sent}
+use Rattle.haar_units.proofs.SumLemmas.{sum_ext, sum_add, sum_front}
+use Rattle.haar_units.proofs.UnitSumLemmas.{weigh, sends_weigh, length_weighs, five, weigh_listed, start_sum, starts_sent}
 use Rattle.haar_units.proofs.CommandTotalLemmas.{cond_zero, Is, is_command}
 
 -- the units of an equivalent kind

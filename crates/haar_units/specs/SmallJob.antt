@@ -1,7 +1,7 @@
 -- A small job for examples that were computed by hand. A tree of the keys 1, 2, 3, 6 and 7 is projected; it is coarsened, which
 -- erases 6 and 7; after a fence its keys are counted. There are two ranks, and rank 1 owns the keys 2 and 7.
 use Rattle.std.specs.Prelude.{ℕ, Bool, List, ◌&&◌, ◌||◌, nat_lt, ◌==◌, if◌then◌else◌, [], ◌∷◌, pos, codes}
-use Rattle.owner_map.specs.declared.map.OwnerMap.TheVariants.{Spread}
+use Rattle.owner_map.specs.declared.map.OwnerMap.TheVariants.{Block}
 use Rattle.tree_model.specs.Commands.{Command}
 use Rattle.tree_model.specs.Functions.Function.{Const}
 use Rattle.tree_model.specs.Totals.{Distribution}
@@ -35,5 +35,12 @@ seven_keys =
     Command.Project (codes "f") (record { function = Const (pos 5); level = 2; tolerance = 0 }) ∷ Command.Coarsen (codes "f") ∷ Command.Fence
     ∷ Command.Size (codes "f") ∷ []
 
-abbrev pub spread_ranks : Distribution
-spread_ranks = by_map Spread 2
+abbrev pub two_blocks : Distribution
+two_blocks = by_map Block 2
+
+-- a command of each kind, in the order of the operations
+abbrev pub all_commands : List Command
+all_commands =
+    Command.Project (codes "f") (record { function = Const (pos 5); level = 2; tolerance = 0 }) ∷ Command.Refine (codes "f") 2 ∷ Command.Coarsen (codes "f")
+    ∷ Command.Compress (codes "f") ∷ Command.Reconstruct (codes "f") ∷ Command.Add (codes "f") (pos 1) (codes "f") (pos 1) (codes "f") ∷ Command.Mul (codes "f") (codes "f") (codes "f")
+    ∷ Command.Inner (codes "f") (codes "f") ∷ Command.Print (codes "f") ∷ Command.Size (codes "f") ∷ Command.Fence ∷ []

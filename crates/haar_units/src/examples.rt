@@ -18,11 +18,11 @@ ghost use Rattle.haar_units.specs.Laws.{stage};
 ghost use Rattle.haar_units.specs.Totals.{total_of};
 ghost use Rattle.tree_key.specs.Keys.{root};
 ghost use Rattle.haar_units.specs.Places.{key_at, has_place};
-ghost use Rattle.haar_units.specs.SmallJob.{all_operations, small_job, small_traversal, small_readers, spread_ranks, seven_keys};
+ghost use Rattle.haar_units.specs.SmallJob.{all_operations, small_job, small_traversal, small_readers, two_blocks, seven_keys, all_commands};
 ghost use Rattle.haar_units.specs.Jobs.Operation.{Project, Coarsen, Size, Fence};
 ghost use Rattle.haar_units.specs.Drops.{dropped_of};
 ghost use Rattle.haar_units.specs.Distributions.{place_owner};
-ghost use Rattle.haar_units.specs.ModelJobs.{distributed, traversal_of, before_fence};
+ghost use Rattle.haar_units.specs.ModelJobs.{operation_of, distributed, traversal_of, before_fence};
 ghost use Rattle.tree_model.specs.Totals.{total_of as serial_total};
 
 /// The labels of units and futures, and the names of entries, by their numbers.
@@ -219,20 +219,25 @@ fn versions_are_dropped()
     ensures unread { dropped_of small_job (λ command version. false) 1 ≡ 1 ∷ 2 ∷ [] }
 {}
 
+/// The operation of each command.
+fn commands_have_operations()
+    ensures { map operation_of all_commands ≡ all_operations }
+{}
+
 /// A job of the model: a tree of all seven keys at depth 2 is projected, and coarsened to its root; after a fence its keys
-/// are counted. Two ranks own keys by `spread`: rank 1 owns the keys 2, 5 and 7. `project` has 7 + 3 tasks and sends 6
-/// messages, for the keys 2, 4 and 7; `coarsen` has 7 + 3 + 6 and sends 9; `size` has 3 and sends 2.
+/// are counted. Two ranks own keys by blocks: rank 1 owns the keys 3, 6 and 7, so only the key 3 has another owner than its
+/// parent. `project` has 7 + 3 tasks and sends 2 messages; `coarsen` has 7 + 3 + 6 and sends 3; `size` has 3 and sends 2.
 fn a_job_of_the_model()
-    ensures operations { (distributed spread_ranks seven_keys).operations ≡ Project ∷ Coarsen ∷ Fence ∷ Size ∷ [] }
-    ensures owners { map (place_owner spread_ranks) (range_with_len 0 8) ≡ 0 ∷ 0 ∷ 1 ∷ 0 ∷ 0 ∷ 1 ∷ 0 ∷ 1 ∷ [] }
+    ensures operations { (distributed two_blocks seven_keys).operations ≡ Project ∷ Coarsen ∷ Fence ∷ Size ∷ [] }
+    ensures owners { map (place_owner two_blocks) (range_with_len 0 8) ≡ 0 ∷ 0 ∷ 0 ∷ 1 ∷ 0 ∷ 0 ∷ 1 ∷ 1 ∷ [] }
     ensures visits { map ((traversal_of 2 seven_keys).visits 2) (range_with_len 0 9) ≡ false ∷ true ∷ true ∷ true ∷ true ∷ true ∷ true ∷ true ∷ false ∷ [] }
     ensures erases { map ((traversal_of 2 seven_keys).erases 2) (range_with_len 0 9) ≡ false ∷ false ∷ true ∷ true ∷ true ∷ true ∷ true ∷ true ∷ false ∷ [] }
-    ensures projected { holds (distributed spread_ranks seven_keys) (traversal_of 2 seven_keys) 8 1 1 ≡ 7 ∷ 5 ∷ 2 ∷ [] }
-    ensures coarsened { holds (distributed spread_ranks seven_keys) (traversal_of 2 seven_keys) 8 0 2 ≡ 1 ∷ [] }
-    ensures first_fence { total_of (distributed spread_ranks seven_keys) (traversal_of 2 seven_keys) 8 1 ≡ (15, 26) }
-    ensures end { total_of (distributed spread_ranks seven_keys) (traversal_of 2 seven_keys) 8 2 ≡ (17, 29) }
-    ensures serial_first { serial_total spread_ranks 2 (before_fence 1 seven_keys) ≡ record { messages = 15; tasks = 26 } }
-    ensures serial_end { serial_total spread_ranks 2 (before_fence 2 seven_keys) ≡ record { messages = 17; tasks = 29 } }
+    ensures projected { holds (distributed two_blocks seven_keys) (traversal_of 2 seven_keys) 8 1 1 ≡ 7 ∷ 6 ∷ 3 ∷ [] }
+    ensures coarsened { holds (distributed two_blocks seven_keys) (traversal_of 2 seven_keys) 8 0 2 ≡ 1 ∷ [] }
+    ensures first_fence { total_of (distributed two_blocks seven_keys) (traversal_of 2 seven_keys) 8 1 ≡ (5, 26) }
+    ensures end { total_of (distributed two_blocks seven_keys) (traversal_of 2 seven_keys) 8 2 ≡ (7, 29) }
+    ensures serial_first { serial_total two_blocks 2 (before_fence 1 seven_keys) ≡ record { messages = 5; tasks = 26 } }
+    ensures serial_end { serial_total two_blocks 2 (before_fence 2 seven_keys) ≡ record { messages = 7; tasks = 29 } }
     ensures before_first { length (before_fence 1 seven_keys) ≡ 2 }
     ensures before_end { length (before_fence 2 seven_keys) ≡ 4 }
     ensures before_none { length (before_fence 0 seven_keys) ≡ 0 }
