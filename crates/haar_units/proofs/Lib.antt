@@ -14,6 +14,7 @@ pub mod LabelListLemmas
 pub mod LabelTreeLemmas
 pub mod ListLawLemmas
 pub mod PlaceLemmas
+pub mod ReadLemmas
 pub mod SerialTotalLemmas
 pub mod ShapeLemmas
 pub mod SmallJobLemmas

@@ -5,6 +5,7 @@ use Rattle.tree_key.specs.Keys.{Key, place_of}
 use Rattle.tree_model.specs.Commands.{Command}
 use Rattle.tree_model.specs.Receipts.{is_fence, fence_count}
 use Rattle.tree_model.specs.Shapes.{is_key_of, key_count}
+use Rattle.tree_model.specs.Signatures.{writes as writes_name}
 use Rattle.tree_model.specs.Totals.{Distribution, Visits, visits_of}
 use Rattle.tree_model.specs.Totals.{total_of as serial_total}
 use Rattle.tree_model.specs.Versions.{Version, Versions, no_versions, written, versions_behind}
@@ -61,6 +62,20 @@ abbrev pub JobsAreTraversed : Type 0
 JobsAreTraversed =
     (distribution : Distribution) (depth : ℕ) (commands : List Command) (number : ℕ) (keys : Visits) → keys_at depth commands number ≡ Some keys
     → IsOverKeys (traversal_of depth commands) number keys × IsTraversal (distributed distribution commands) (traversal_of depth commands) (2 ^ (depth + 1)) number
+
+-- before the command of a number, the command `version` is the last that writes a name
+pub record IsLastWriter (commands : List Command) (number : ℕ) (name : List ℕ) (version : ℕ) : Type 0 where
+  pub earlier : version < number
+  pub writer : Command
+  pub at : command_at commands version ≡ Some writer
+  pub writes_it : writes_name name writer ≡ true
+  pub last : (other : ℕ) (c : Command) → version < other → other < number → command_at commands other ≡ Some c → writes_name name c ≡ false
+
+-- then the name stands for what that command wrote
+abbrev pub ReadsAreVersions : Type 0
+ReadsAreVersions =
+    (depth : ℕ) (commands : List Command) (number : ℕ) (name : List ℕ) (number_of_version : ℕ) (version : Version)
+    → IsLastWriter commands number name number_of_version → version_at depth commands number_of_version ≡ Some version → versions_before depth commands number name ≡ Some version
 
 -- the commands before the fence of a number; all of them for a number after that of the last fence
 abbrev pub before_fence : ℕ → List Command → List Command

@@ -13,7 +13,7 @@ ghost use Rattle.app_core.specs.Outlines.{outlines};
 ghost use Rattle.haar_units.specs.Decisions.{DecidedStepsAreAllowed, DecidedStepsAreAllowedAnywhere};
 ghost use Rattle.haar_units.specs.Places.{PlacesHaveKeys, KeysHavePlaces};
 ghost use Rattle.haar_units.specs.Distributions.{KeysAreTraversals, TotalsAreOfKeys, SizesAreOfRanks, HoldsAreOfKeys, CountsAddUp, RootIsAtZero, OwnersAreRanks};
-ghost use Rattle.haar_units.specs.ModelJobs.{JobsAreTraversed, HoldsAreTrees, SizesAddUp, TotalsAreSerial, FencesHaveNumbers};
+ghost use Rattle.haar_units.specs.ModelJobs.{JobsAreTraversed, HoldsAreTrees, SizesAddUp, ReadsAreVersions, TotalsAreSerial, FencesHaveNumbers};
 ghost use Rattle.haar_units.specs.Drops.{DroppedIsWritten, DroppedStaysUnread, DropsComeOnce, UsedUpIsDropped};
 ghost use Rattle.haar_units.specs.JobLaws.{JobBinsAreHeld, JobReceiptsAreSerial};
 ghost use Rattle.haar_units.specs.ListLaws.{RunsKeepTheLaws};
@@ -118,11 +118,13 @@ pub fn runs_keep_the_laws<A: Facts>()
 {}
 
 /// The commands of a job visit shapes. Of a version each rank holds just the keys of its tree that the rank owns, and their
-/// numbers add up to the number of the tree's keys.
+/// numbers add up to the number of the tree's keys. A command reads, under a name, what the last command before it that
+/// writes this name wrote.
 pub fn jobs_are_traversed()
     ensures shapes { JobsAreTraversed }
     ensures holds { HoldsAreTrees }
     ensures sizes { SizesAddUp }
+    ensures reads { ReadsAreVersions }
 {}
 
 /// Up to each fence, the units of a job have as many messages and tasks as the receipts of the model say.
