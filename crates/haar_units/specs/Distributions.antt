@@ -39,14 +39,14 @@ pub record AreVisits (depth : ℕ) (keys : Visits) : Type 0 where
   pub root : keys.erased root ≡ false
   pub both : (k : Key) → keys.erased (child k true) ≡ keys.erased (child k false)
 
--- such a command is one that the laws on units speak of, if only `coarsen` erases keys
+-- such a command meets `IsTraversal`, if only `coarsen` erases keys
 abbrev pub KeysAreTraversals : Type 0
 KeysAreTraversals =
     (job : DistributedJob) (traversal : Traversal) (depth command : ℕ) (keys : Visits) → AreVisits depth keys → IsOverKeys traversal command keys
     → ((k : Key) → keys.erased k ≡ true → operation_at job command ≡ Some Coarsen)
     → IsTraversal job traversal (2 ^ (depth + 1)) command
 
--- the units of a command on trees have as many tasks and messages as the keys come to that it visits and erases
+-- the tasks and messages of a command on trees are the model's total of the keys that it visits and erases
 abbrev pub TotalsAreOfKeys : Type 0
 TotalsAreOfKeys =
     (distribution : Distribution) (job : DistributedJob) (traversal : Traversal) (depth command : ℕ) (operation : Operation) (keys : Visits)
@@ -54,7 +54,7 @@ TotalsAreOfKeys =
     → (tasks_of job traversal (2 ^ (depth + 1)) command operation ≡ (visits_total distribution depth keys).tasks)
     × (messages_of job traversal (2 ^ (depth + 1)) command operation ≡ (visits_total distribution depth keys).messages)
 
--- and those of `size` as many as `size` comes to
+-- those of `size` are the model's total of `size`
 abbrev pub SizesAreOfRanks : Type 0
 SizesAreOfRanks =
     (distribution : Distribution) (job : DistributedJob) (traversal : Traversal) (bound command : ℕ) → IsDistributed distribution job

@@ -50,14 +50,14 @@ keys_at depth commands number = option_and_then (visits_of depth (versions_befor
 abbrev pub version_at : ℕ → List Command → ℕ → Option Version
 version_at depth commands number = option_and_then (written depth (versions_before depth commands number)) (command_at commands number)
 
--- so all commands visit and erase keys
+-- what all commands visit and erase
 abbrev pub traversal_of : ℕ → List Command → Traversal
 traversal_of depth commands = record {
   visits = λ number place. option_map_or (λ keys. has_place keys.visited place) (keys_at depth commands number) false;
   erases = λ number place. option_map_or (λ keys. has_place keys.erased place) (keys_at depth commands number) false;
 }
 
--- they do so as the laws on units ask
+-- each command that visits keys meets `IsTraversal`
 abbrev pub JobsAreTraversed : Type 0
 JobsAreTraversed =
     (distribution : Distribution) (depth : ℕ) (commands : List Command) (number : ℕ) (keys : Visits) → keys_at depth commands number ≡ Some keys

@@ -2,7 +2,7 @@
 use Rattle.std.specs.Prelude.{◌≡◌, ℕ, zero, suc, ◌/◌, ◌%◌, ◌^◌, ◌<◌, ◌≤◌, nat_lt, Bool, ◌&&◌, ◌==◌, if◌then◌else◌}
 use Rattle.tree_key.specs.Keys.{Key, root, child, place_of}
 
--- the key of a place, found by so many steps at most; the place has no more levels
+-- the key of a place, found in so many steps; the place itself is steps enough
 abbrev pub key_in : ℕ → ℕ → Key
 key_in zero place = root
 key_in (suc steps) place = if nat_lt 1 place then child (key_in steps (place / 2)) (place % 2 == 1) else root

@@ -105,8 +105,8 @@ pub fn maps_own_keys()
     ensures rank { OwnersAreRanks }
 {}
 
-/// The totals of the units are those of the model: a command comes to as many tasks and messages as the keys that it visits
-/// and erases, and `size` to as many as there are ranks.
+/// The tasks and messages of a command on trees are the model's total of the keys that it visits and erases, and those of
+/// `size` the model's total of `size`.
 pub fn totals_are_of_keys()
     ensures trees { TotalsAreOfKeys }
     ensures sizes { SizesAreOfRanks }
