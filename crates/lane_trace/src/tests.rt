@@ -6,6 +6,8 @@ use crate::{LaneTrace, Room};
 use app_core::{CellName, Label, Needs};
 use event_lists::{Event, Kind, Parcel, Receipt, Row, Rows, TaskName};
 use std::test::Fail;
+use std::thread;
+use std::thread::Threads;
 
 fn label(place: u64) -> Label {
     Label {
@@ -274,5 +276,20 @@ fn room_is_asked_for(rt: HostRuntime) -> Result<(), Fail> {
     assert!(rt; room.events >= 2 && room.needs >= 32 && room.rows >= 32);
     trace.enter(1);
     assert_eq!(rt; trace.room().events + 1, room.events);
+    Ok(())
+}
+
+fn counted_on_threads<R: Threads + Sync>(rt: &R, one: LaneTrace, two: LaneTrace) -> (usize, usize) {
+    thread::join(rt, move || one.len(), move || two.len())
+}
+
+#[test]
+fn a_trace_is_moved_to_another_thread(rt: HostRuntime) -> Result<(), Fail> {
+    let mut trace = LaneTrace::new(rt.alloc());
+    trace.reserve(&Room::of_any(2))?;
+    trace.enter(1);
+    trace.leave(1);
+    let counts = counted_on_threads(&rt, trace, LaneTrace::new(rt.alloc()));
+    assert_eq!(rt; counts, (2, 0));
     Ok(())
 }
