@@ -93,6 +93,33 @@ fn a_unit_goes_through_an_inbox(rt: HostRuntime) -> Result<(), Fail> {
     Ok(())
 }
 
+// One thread sends a mail, and the other looks for one.
+fn share_mail<A: App, J: Naming<A> + Send + Sync, R: Threads + Wait + Sync>(
+    rt: &R,
+    inbox: &Inbox<Mail<A, J>>,
+    mail: Mail<A, J>,
+) -> (bool, Option<Mail<A, J>>) {
+    thread::join(
+        rt,
+        move || inbox.put(rt, &mut inbox.pass(rt), mail).is_ok(),
+        move || inbox.take(rt, &mut inbox.pass(rt)),
+    )
+}
+
+#[test]
+fn mail_crosses_threads(rt: HostRuntime) -> Result<(), Fail> {
+    let inbox: Inbox<Mail<SmallApp, Brand>> = Inbox::new(rt.alloc())?;
+    let load = Load::Unit {
+        unit: Unit::Clear,
+        due: None,
+    };
+    let (put, early) = share_mail(&rt, &inbox, Mail::new(load));
+    assert!(rt; put);
+    let late = inbox.take(&rt, &mut inbox.pass(&rt));
+    assert!(rt; early.is_some() != late.is_some());
+    Ok(())
+}
+
 const COUNT: u32 = 1000;
 
 // A message with its sender, and its number there.
