@@ -1,6 +1,8 @@
 pub mod CheckLemmas
 pub mod WriterLemmas
 pub mod FenceLemmas
+pub mod DropLemmas
+pub mod DroppedOnceLemmas
 pub mod HistoryLemmas
 pub mod MeaningLemmas
 pub mod CommandLemmas

@@ -10,3 +10,5 @@ pub mod Writers
 pub mod Recalls
 pub mod Meaning
 pub mod Samples
+pub mod Drops
+pub mod Uses

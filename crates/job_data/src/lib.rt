@@ -7,6 +7,8 @@
 #![tactic(auto)]
 
 mod command;
+mod drop_examples;
+mod drops;
 mod fault_kind;
 mod found;
 mod history;
@@ -23,6 +25,7 @@ mod tree_form;
 mod writers;
 
 pub use command::Command;
+pub use drops::Drops;
 pub use fault_kind::FaultKind;
 pub use history::History;
 pub use job::{Job, MAX_DEPTH};

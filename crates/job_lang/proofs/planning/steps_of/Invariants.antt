@@ -2,7 +2,7 @@ use Rattle.std.proofs.Common.{◌≡◌, [], map, take}
 use Rattle.job_data.specs.Data.{data_of}
 use Rattle.job_data.specs.Recalls.{Recalls}
 use Rattle.job_data.specs.Versions.{plan_from}
-use Rattle.job_lang.proofs.planning.plan.Given as goal
+use Rattle.job_lang.proofs.planning.steps_of.Given as goal
 
 abbrev pub invariant-loop-at : goal.invariant-loop-at
 invariant-loop-at l = record {
