@@ -9,9 +9,12 @@
 mod bin;
 mod bin_state;
 mod entries;
+mod examples;
 mod look_ups;
 mod rank_bins;
 mod refusals;
+#[cfg(test)]
+mod tests;
 mod version_entries;
 
 pub use bin::Bin;
