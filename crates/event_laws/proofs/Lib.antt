@@ -25,3 +25,4 @@ pub mod HomeLemmas
 pub mod GiveLemmas
 pub mod EraseLemmas
 pub mod SmallRunLemmas
+pub mod LateWriteLemmas

@@ -1,6 +1,6 @@
 -- What holds at each receipt of a run, for any application: all that comes before the fence is done, and nothing of it
 -- comes later.
-use Rattle.std.specs.Prelude.{◌≡◌, ◌↔◌, ◌⊎◌, ℕ, ◌<◌, Bool, true, List, Option, Some, take, slice_get, Contains}
+use Rattle.std.specs.Prelude.{◌≡◌, ◌↔◌, ◌⊎◌, ℕ, ◌<◌, Bool, true, List, ◌∷◌, Option, Some, take, slice_get, Contains}
 use Rattle.app_core.specs.declared.label.Label.{Label}
 use Rattle.app_core.specs.declared.label.CellName.{CellName}
 use Rattle.app_core.specs.declared.outline.Outline.{Outline}
@@ -8,11 +8,13 @@ use Rattle.app_core.specs.declared.outline.Outline.TheVariants as of
 use Rattle.app_core.specs.declared.outline.CommandKind.{CommandKind}
 use Rattle.app_core.specs.Commands.{IsWork}
 use Rattle.event_lists.specs.declared.lane.LaneName.{LaneName}
+use Rattle.event_lists.specs.declared.event.Event.TheVariants.{Put, Erased}
 use Rattle.event_lists.specs.declared.event.Parcel.{Parcel}
 use Rattle.event_lists.specs.declared.event.TaskName.{TaskName}
 use Rattle.event_lists.specs.declared.receipt.Receipt.{Receipt}
 use Rattle.event_lists.specs.declared.mark.Mark.{Mark}
 use Rattle.event_lists.specs.Events.{part, IsSent, IsSubmitted}
+use Rattle.event_lists.specs.Fences.{has_receipt}
 use Rattle.event_lists.specs.Bins.{is_put}
 use Rattle.event_laws.specs.Follows.{TaskEffects, Doing, Start, IsRun, program_from, bin_of}
 use Rattle.event_laws.specs.Trees.{unit_of}
@@ -84,6 +86,23 @@ EntriesStay ranks program may =
     → (workers : ℕ) (task_effects : TaskEffects) (log before : List Mark) (x : Mark) (r : Receipt) → IsRun ranks workers program may task_effects log → HasReceipt log before x r
     → (c : CellName) → ((p : Label) (os : List Outline) (i : ℕ) (o : Outline) → may p os → slice_get os i ≡ Some o → (o ≡ of.Put c) ⊎ (o ≡ of.Erase c) → stage p < r.fence)
     → (l : LaneName) → is_put c (part l log) ≡ is_put c (part l before)
+
+-- only units before the fence put or erase the entry
+abbrev pub IsWrittenBefore : (Label → List Outline → Type 0) → (Label → ℕ) → ℕ → CellName → Type 0
+IsWrittenBefore may stage fence c = (p : Label) (os : List Outline) (i : ℕ) (o : Outline) → may p os → slice_get os i ≡ Some o → (o ≡ of.Put c) ⊎ (o ≡ of.Erase c) → stage p < fence
+
+-- such an entry isn't put or erased after the fence has a receipt
+abbrev pub NoneIsWrittenLater : ℕ → List Doing → (Label → List Outline → Type 0) → Type 0
+NoneIsWrittenLater ranks program may =
+    (stage : Label → ℕ) → IsStaged program may stage
+    → (workers : ℕ) (task_effects : TaskEffects) (log : List Mark) (x : Mark) → IsRun ranks workers program may task_effects (x ∷ log)
+    → (c : CellName) → (x.event ≡ Put c) ⊎ (x.event ≡ Erased c) → (fence : ℕ) → has_receipt fence log ≡ true → IsWrittenBefore may stage fence c → ⊥
+
+-- so it isn't where its version is dropped at the fence
+abbrev pub NoDroppedIsWritten : ℕ → List Doing → (Label → List Outline → Type 0) → (ℕ → List ℕ) → Type 0
+NoDroppedIsWritten ranks program may dropped =
+    (workers : ℕ) (task_effects : TaskEffects) (log : List Mark) (x : Mark) → IsRun ranks workers program may task_effects (x ∷ log)
+    → (c : CellName) → (x.event ≡ Put c) ⊎ (x.event ≡ Erased c) → (fence : ℕ) → has_receipt fence log ≡ true → Contains (dropped fence) c.version → ⊥
 
 -- the units of a kind, which a test tells, are done at their homes, and no task of the kind is another
 abbrev pub UnitsAreDone : ℕ → List Doing → (Label → List Outline → Type 0) → Type 0

@@ -3,8 +3,9 @@
 //! An application shows by these what its bins hold and what a receipt counts, from its plain data and with no
 //! induction on lists of events: it names the units that are spawned, each with its home and its effects.
 ghost use Rattle.event_laws.specs.Follows.{program_from};
-ghost use Rattle.event_laws.specs.Receipts.{TasksAreDone, MessagesAreHandedOn, StartsAreDone, SpawnsAreDone, NothingComesLater, NothingComesEarlier, StagesAreTold, EntriesLie, EntriesStay, UnitsAreDone, UnitsFillTheBins, TotalsAreCounted};
+ghost use Rattle.event_laws.specs.Receipts.{TasksAreDone, MessagesAreHandedOn, StartsAreDone, SpawnsAreDone, NothingComesLater, NothingComesEarlier, StagesAreTold, EntriesLie, EntriesStay, NoneIsWrittenLater, NoDroppedIsWritten, UnitsAreDone, UnitsFillTheBins, TotalsAreCounted};
 
+use crate::list_laws::ListLaws;
 use app_core::Facts;
 
 /// At a receipt each task has carried out all of its effects, and what each message carries was delivered; each start
@@ -33,6 +34,16 @@ pub fn labels_tell_the_fences_before<A: Facts>()
 pub fn entries_lie_where_they_were_put<A: Facts>()
     ensures now { (app : A) → EntriesLie (A.ranks_of app) (program_from 1 (A.kinds_of app) (A.starts_of app)) (A.may_do app) }
     ensures later { (app : A) → EntriesStay (A.ranks_of app) (program_from 1 (A.kinds_of app) (A.starts_of app)) (A.may_do app) }
+{}
+
+/// An entry that only units before a fence put or erase isn't put or erased after the fence has a receipt.
+pub fn nothing_is_written_after_the_fence<A: Facts>()
+    ensures { (app : A) → NoneIsWrittenLater (A.ranks_of app) (program_from 1 (A.kinds_of app) (A.starts_of app)) (A.may_do app) }
+{}
+
+/// An entry isn't put or erased after a receipt of a fence at which its version is dropped.
+pub fn nothing_dropped_is_written<A: ListLaws>()
+    ensures { (app : A) → NoDroppedIsWritten (A.ranks_of app) (program_from 1 (A.kinds_of app) (A.starts_of app)) (A.may_do app) (A.dropped_of app) }
 {}
 
 /// Where an application names the units of a kind that come up before a fence, these are done at its receipt, and an entry
