@@ -1,4 +1,4 @@
--- The canonical text of a job reads as the job.
+-- Lemmas that crates above use: the canonical text of a job reads as the job.
 use Rattle.std.proofs.Common.{◌≡◌, ℕ, ◌+◌, ◌<◌, ◌≤◌, ◌^◌, ◌-◌, Bool, true, false, List, [], ◌∷◌, ◌++◌, length, take, get_or, map, refl, sym, ◌∙◌, ap, arith, append_assoc, append-nil, ℤ, pos, lit≤}
 use Rattle.std.specs.Prelude.{◌&&◌, nat_le, nat_lt, codes, decimal, Some, Result, Ok}
 use Rattle.std.specs.Fmt.{signed_decimal}
