@@ -19,6 +19,7 @@ pub mod WholeBoxLemmas
 pub mod ConstantBoxLemmas
 pub mod CoarsenedTreeLemmas
 pub mod KeyCountLemmas
+pub mod CutLemmas
 pub mod ValueLimitLemmas
 pub mod SameEntryLemmas
 pub mod KeyOrderLemmas

@@ -19,3 +19,4 @@ pub mod Totals
 pub mod Receipts
 pub mod StoredTrees
 pub mod CoarseningLaws
+pub mod TotalLaws

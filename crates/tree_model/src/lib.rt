@@ -10,6 +10,7 @@ mod laws;
 mod operations;
 mod receipt_examples;
 mod stored;
+mod totals;
 
 pub use coarsening::{
     boxes_are_constant_by_halves, coarsened_leaves_are_constant, coarsened_trees_are_least,
@@ -27,3 +28,4 @@ pub use stored::{
     kept_numbers_are_in_order, products_are_of_values, projections_have_values,
     values_show_on_leaves, whole_boxes_have_one_value,
 };
+pub use totals::{cuts_are_counted_by_leaves, erased_keys_are_the_rest, intersections_are_shapes};
