@@ -1,4 +1,4 @@
--- Sums over the keys of a shape, level by level: its edges whose ends have two owners, and what coarsening erases.
+-- Lemmas that crates above use: sums over the keys of a shape, level by level: its edges whose ends have two owners, and what coarsening erases.
 use Rattle.std.proofs.Common.{◌≡◌, ℕ, zero, suc, ◌+◌, ◌*◌, ◌/◌, ◌%◌, ◌==◌, List, [], ◌∷◌, ◌++◌, length, filter, Bool, true, false, not, cond, ◌&&◌, inl, inr, refl, sym, ◌∙◌, ap, ap₂, subst, arith, add-one, add-zero, zero-add, append-nil}
 use Rattle.std.specs.List.{flat_map, range_with_len, AllByRecursion, sum_by}
 use Rattle.std.proofs.lemmas.Bool.{cases_Bool, and_right, eq-eqb, ne_eqb, true≢false}
@@ -9,7 +9,7 @@ use Rattle.tree_key.specs.Keys.{Key, child}
 use Rattle.tree_model.specs.Operations.{coarsened}
 use Rattle.tree_model.specs.Rows.{both}
 use Rattle.tree_model.specs.Shapes.{IsShape, keys_on, keys, is_leaf, is_interior}
-use Rattle.tree_model.specs.TotalLaws.{CommonInterior, CutsAboveLeaves, CutsBelowInterior, ErasedCuts, ErasedKeys, IntersectionIsShape, cut, cuts_below, cuts_from, cuts_up}
+use Rattle.tree_model.specs.TotalLaws.{CommonInterior, CutsAboveLeaves, CutsBelowInterior, ErasedCuts, ErasedKeys, IntersectionIsShape, KeysOfShapes, cut, cuts_below, cuts_from, cuts_up}
 use Rattle.tree_model.specs.Totals.{intersection, is_cut}
 use Rattle.tree_model.specs.Trees.{Tree, IsTree}
 use Rattle.tree_model.proofs.BelowLeafLemmas.{key_parts}
@@ -203,6 +203,38 @@ cuts_above_leaves owner depth shape is =
     let last = last_level (cuts_up owner) depth shape is in
     let all = one_more_level (cuts_up owner) (is_leaf shape) depth in
     count_is shape owner (keys depth) ∙ omega (arith, down, parts, last, all)
+
+-- ---- all keys
+
+abbrev one : Key → ℕ
+one k = 1
+
+length_is : (test : Key → Bool) (ks : List Key) → length (filter test ks) ≡ total_of one test ks
+length_is test [] = refl
+length_is test (k ∷ ks) = go (test k) (length_is test ks) ∙ sym (total_cons one test k ks)
+  where
+    go : (b : Bool) → length (filter test ks) ≡ total_of one test ks → length (cond b (k ∷ filter test ks) (filter test ks)) ≡ cond b 1 0 + total_of one test ks
+    go true rest = omega (arith, rest)
+    go false rest = rest ∙ sym (zero-add (total_of one test ks))
+
+-- down to a level, the keys are the root and the children of those above it that have children
+shape_down : (depth level : ℕ) (shape : Key → Bool) → IsShape depth shape → total_of one shape (keys_above (level + 1)) ≡ total_of (of_children one) (is_interior shape) (keys_above level) + 1
+shape_down depth zero shape is = rw is.root refl
+shape_down depth (suc level) shape is =
+    let above = shape_down depth level shape is in
+    let next = next_level one depth shape level is in
+    let whole = one_more_level one shape (level + 1) in
+    let part = one_more_level (of_children one) (is_interior shape) level in
+    subst (λ n. total_of one shape (keys_above (n + 1)) ≡ total_of (of_children one) (is_interior shape) (keys_above n) + 1) (add-one level) (omega (arith, above, next, whole, part))
+
+pub keys_of_shapes : KeysOfShapes
+keys_of_shapes depth shape is =
+    let down = shape_down depth depth shape is in
+    let last = last_level (of_children one) depth shape is in
+    let all = one_more_level (of_children one) (is_interior shape) depth in
+    let twice = total_plus one one (is_interior shape) (keys depth) in
+    let inner = length_is (is_interior shape) (keys depth) in
+    length_is shape (keys depth) ∙ omega (arith, down, last, all, twice, inner)
 
 -- ---- two shapes
 

@@ -1,5 +1,5 @@
 -- What holds of the edges of shapes whose ends have two owners, and of what coarsening erases.
-use Rattle.std.specs.Prelude.{◌≡◌, ℕ, zero, suc, ◌+◌, ◌/◌, ◌%◌, ◌==◌, Bool, true, false, ◌&&◌, not, filter, if◌then◌else◌}
+use Rattle.std.specs.Prelude.{◌≡◌, ℕ, zero, suc, ◌+◌, ◌*◌, ◌/◌, ◌%◌, ◌==◌, Bool, true, false, ◌&&◌, not, filter, if◌then◌else◌}
 use Rattle.std.specs.List.{sum_by}
 use Rattle.tree_key.specs.Keys.{Key, child}
 use Rattle.tree_model.specs.Operations.{coarsened}
@@ -33,6 +33,10 @@ CutsBelowInterior = (owner : Key → ℕ) (depth : ℕ) (shape : Key → Bool) �
 
 abbrev pub CutsAboveLeaves : Type 0
 CutsAboveLeaves = (owner : Key → ℕ) (depth : ℕ) (shape : Key → Bool) → IsShape depth shape → cut_count owner depth shape ≡ sum_by (cuts_up owner) (filter (is_leaf shape) (keys depth))
+
+-- a shape has one key more than twice those that have children
+abbrev pub KeysOfShapes : Type 0
+KeysOfShapes = (depth : ℕ) (shape : Key → Bool) → IsShape depth shape → key_count depth shape ≡ 2 * key_count depth (is_interior shape) + 1
 
 -- the keys of two shapes are a shape, and those with children are those that have children in both
 abbrev pub IntersectionIsShape : Type 0
