@@ -1,5 +1,5 @@
 -- From what a step tells of a lane's seat to what is kept of the seat, and what contracts see of the lane.
-use Rattle.std.proofs.Common.{◌≡◌, ◌⊎◌, ℕ, suc, ◌+◌, ◌-◌, ◌*◌, ◌^◌, ◌<◌, ◌≤◌, Bool, true, false, List, [], ◌∷◌, ◌++◌, length, refl, sym, ap, ◌∙◌, subst, inl, inr, ⊎_elim, arith, append-nil}
+use Rattle.std.proofs.Common.{◌≡◌, ◌⊎◌, ℕ, ◌+◌, ◌-◌, ◌*◌, ◌^◌, ◌<◌, ◌≤◌, Bool, true, false, List, [], ◌∷◌, ◌++◌, length, refl, sym, ap, ◌∙◌, subst, inl, inr, arith, append-nil}
 use Rattle.std.specs.Prelude.{Option, Some, None, slice_get, ◌||◌, Contains}
 use Rattle.atomic_table.specs.Seated.{TableId}
 use Rattle.app_core.specs.declared.label.Label.{Label}
@@ -21,14 +21,14 @@ use Rattle.world_rule.specs.declared.view.Owed.{Owed}
 use Rattle.world_rule.specs.declared.view.OwnPart.{OwnPart}
 use Rattle.world_rule.specs.declared.view.Progress.{Progress}
 use Rattle.world_rule.specs.declared.view.View.{View}
-use Rattle.world_rule.specs.Owing.{made_by, took, ended, Made, IsCounted, item_in}
-use Rattle.world_rule.specs.Views.{mark, numbered, own_part, own_events, joined, first_of, progress_after, seeing, after_event, after_draw, further, next_outline, unburdened, packed_by, drawn_from}
+use Rattle.world_rule.specs.Owing.{made_by, took, ended, Made}
+use Rattle.world_rule.specs.Views.{mark, numbered, own_part, own_events, joined, first_of, after_draw, further, next_outline, unburdened}
 use Rattle.world_rule.specs.CounterWords.{word_count}
 use Rattle.world_rule.specs.Steps.{IsUnderWay, SeesRun, Looked, Appended, M, Appends}
 use Rattle.world_rule.proofs.ContainsLemmas.{contains_first, contains_one}
 use Rattle.world_rule.proofs.PendingLemmas.{made_begins}
 use Rattle.world_words.specs.Lanes.{WordsView, LaneView, SeesMore, Grew}
-use Rattle.world_words.specs.Seats.{IsLaneSeat, IsPassive, IsCarrier, the_owed, the_task, the_outline, owed_item}
+use Rattle.world_words.specs.Seats.{IsLaneSeat, IsPassive, the_task, the_outline, owed_item}
 
 -- what contracts see of a lane with this seat
 abbrev pub lane_view : TableId → LaneName → ℕ → M → LaneView
@@ -73,8 +73,8 @@ under_way ranks workers program may log ps l es task alone s = (
   s.task_effects,
   s.run,
   λ b e. let t = s.begun b e in
-    let here : own_part l es ≡ t.0 = contains_one (own_part l es) t.0 (subst (λ (qs : List OwnPart). Contains qs t.0) alone t.1) in
-    subst (λ (p : OwnPart). IsUnderWay s.task_effects p.events b) (sym here) t.2,
+      let here : own_part l es ≡ t.0 = contains_one (own_part l es) t.0 (subst (λ (qs : List OwnPart). Contains qs t.0) alone t.1) in
+      subst (λ (p : OwnPart). IsUnderWay s.task_effects p.events b) (sym here) t.2,
 )
 
 module _ {A : Type 0} (words : WordsView A) (may : Label → List Outline → Type 0) where
@@ -104,9 +104,9 @@ module _ {A : Type 0} (words : WordsView A) (may : Label → List Outline → Ty
       let owing : w.0.owes ≡ m.0.owes = ap (λ (v : View). v.owes) s.changes ∙ owed in
       let more = sees_more l spare t u hand owes m w v' (lane_view t l spare m) seat parts refl s in
       seat_with t u l hand owes spare m w seat same slots now (ap owed_item owing ∙ seat.owing)
-        (λ o e. made_begins o m.0.seen w.0.seen s.seen (seat.made o (sym owing ∙ e)))
-        (λ b e. (more.run.2 b e).hand)
-        more.own
+      (λ o e. made_begins o m.0.seen w.0.seen s.seen (seat.made o (sym owing ∙ e)))
+      (λ b e. (more.run.2 b e).hand)
+      more.own
 
   -- a lane after an event
   pub grew : (l : LaneName) (e : Event) (f : Option EffectName) (m : M) (n : ℕ) (w : M) (t u : TableId) (spare : ℕ) (old : LaneView) → lane_view t l spare m ≡ old → 0 < old.spare → u ≡ t
@@ -177,8 +177,7 @@ pub loaded_seat : (t u : TableId) (l : LaneName) (hand owes item : Option Item) 
     → (part l n.0.seen ≡ own_events n.0.parts) × (n.0.parts ≡ own_part l (own_events n.0.parts) ∷ []) × (own_events n.0.parts ≡ own_events m.0.parts) × (n.0.owes ≡ Some o)
 loaded_seat t u l hand owes item o spare m w n is pass now none same =
     let k = took_in t l hand owes (Some o) spare m w n is pass now in
-    let parts : n.0.parts ≡ m.0.parts = ap (λ (v : View). v.parts) k in
-    (
+    let parts : n.0.parts ≡ m.0.parts = ap (λ (v : View). v.parts) k in (
       ap (λ (v : View). part l v.seen) k ∙ is.own ∙ sym (ap own_events parts),
       parts ∙ is.alone ∙ ap (λ ps. own_part l (own_events ps) ∷ []) (sym parts),
       ap own_events parts,
@@ -213,13 +212,12 @@ learnt ranks workers program may x n w log is s = subst (λ (z : List Mark). Beg
 pub told_seat : (t u : TableId) (l : LaneName) (hand owes : Option Item) (spare : ℕ) (m w n : M) → IsLaneSeat t l hand owes spare m → IsPassive None w → n ≡ (joined m.0 w.0, m.1) → u ≡ t
     → (n.0 ≡ record m.0 { told = w.0.seen }) × IsLaneSeat u l hand owes spare n
 told_seat t u l hand owes spare m w n is pass now same =
-    let k : n.0 ≡ record m.0 { told = w.0.seen } = took_in t l hand owes None spare m w n is pass now ∙ (λ i. record m.0 { told = w.0.seen; owes = no_more m.0.owes i }) in
-    (
+    let k : n.0 ≡ record m.0 { told = w.0.seen } = took_in t l hand owes None spare m w n is pass now ∙ (λ i. record m.0 { told = w.0.seen; owes = no_more m.0.owes i }) in (
       k,
       seat_with t u l hand owes spare m n is same (ap (λ (z : M). z.1) now) (ap (λ (v : View). v.parts) k) (ap (λ (v : View). owed_item v.owes) k ∙ is.owing)
-        (λ o e. subst (λ (v : View). Made o v.seen) (sym k) (is.made o (sym (ap (λ (v : View). v.owes) k) ∙ e)))
-        (λ b e. ap (λ (v : View). in_hand (own_events v.parts)) k ∙ is.begun b (sym (ap (λ (v : View). v.progress) k) ∙ e))
-        (ap (λ (v : View). part l v.seen) k ∙ is.own ∙ sym (ap (λ (v : View). own_events v.parts) k)),
+          (λ o e. subst (λ (v : View). Made o v.seen) (sym k) (is.made o (sym (ap (λ (v : View). v.owes) k) ∙ e)))
+          (λ b e. ap (λ (v : View). in_hand (own_events v.parts)) k ∙ is.begun b (sym (ap (λ (v : View). v.progress) k) ∙ e))
+          (ap (λ (v : View). part l v.seen) k ∙ is.own ∙ sym (ap (λ (v : View). own_events v.parts) k)),
     )
 
 -- the same event, by what is in hand
@@ -236,10 +234,10 @@ drew_seat ranks workers program may b o l m w n t u z hand owes spare is none ta
     let empty : n.0.owes ≡ None = ap (λ (y : M). y.0.owes) now in
     let progress : n.0.progress ≡ Some (further b) = ap (λ (y : M). y.0.progress) now ∙ ap (λ (v : View). v.progress) s.changes in
     seat_with t z l hand owes spare m n is (there ∙ same) (ap (λ (y : M). y.1) now ∙ slots) parts
-      (ap owed_item empty ∙ sym (ap owed_item none) ∙ is.owing)
-      (λ q e. absurd (let y : None ≡ Some q = sym empty ∙ e in cc))
-      (λ c e. let y : Some (further b) ≡ Some c = sym progress ∙ e in let same_is : further b ≡ c = cc in subst (λ (q : Progress). in_hand (own_events n.0.parts) ≡ Some (Task q.rank q.number)) same_is (ap (λ ps. in_hand (own_events ps)) parts ∙ is.begun b task))
-      (ap (λ (y : M). part l y.0.seen) now ∙ drew_own ∙ sym (ap own_events parts))
+    (ap owed_item empty ∙ sym (ap owed_item none) ∙ is.owing)
+    (λ q e. absurd (let y : None ≡ Some q = sym empty ∙ e in cc))
+    (λ c e. let y : Some (further b) ≡ Some c = sym progress ∙ e in let same_is : further b ≡ c = cc in subst (λ (q : Progress). in_hand (own_events n.0.parts) ≡ Some (Task q.rank q.number)) same_is (ap (λ ps. in_hand (own_events ps)) parts ∙ is.begun b task))
+    (ap (λ (y : M). part l y.0.seen) now ∙ drew_own ∙ sym (ap own_events parts))
   where
     drew_own : part l w.0.seen ≡ own_events m.0.parts
     drew_own = s.own (own_part l (own_events m.0.parts)) (subst (λ (ps : List OwnPart). Contains ps (own_part l (own_events m.0.parts))) (sym (ap (λ (v : View). v.parts) s.changes ∙ is.alone)) (contains_first (own_part l (own_events m.0.parts)) []))

@@ -1,5 +1,5 @@
 -- What is kept of the seats of lanes, carriers and tolds.
-use Rattle.std.specs.Prelude.{◌≡◌, ℕ, false, ◌+◌, ◌*◌, ◌^◌, ◌≤◌, List, [], ◌∷◌, length, Option, Some, None}
+use Rattle.std.specs.Prelude.{◌≡◌, ℕ, false, ◌+◌, ◌*◌, ◌^◌, ◌≤◌, [], ◌∷◌, length, Option, Some, None}
 use Rattle.atomic_table.specs.Seated.{TableId}
 use Rattle.app_core.specs.declared.outline.Outline.{Outline}
 use Rattle.event_lists.specs.declared.lane.LaneName.{LaneName}

@@ -1,11 +1,12 @@
 //! Puts and erases of the task in hand: they are drawn, and carried out on bins' lanes.
-ghost use Rattle.std.specs.Prelude.{◌≡◌, ◌⊎◌, ℕ, ◌<◌, true, false, None, Some, slice_get};
+ghost use Rattle.std.specs.Prelude.{◌≡◌, ◌⊎◌, ℕ, ◌<◌, true, false, None, Some, slice_get, Contains};
 ghost use Rattle.atomic_table.specs.Table.{Allows};
 ghost use Rattle.app_core.specs.declared.outline.Outline.{Outline as OutlineData};
 ghost use Rattle.app_core.specs.declared.outline.Outline.TheVariants.{Put as Puts, Erase as Erases};
 ghost use Rattle.event_lists.specs.declared.event.Event.TheVariants.{Put, Erased};
 ghost use Rattle.event_lists.specs.declared.mark.EffectName.{EffectName};
 ghost use Rattle.event_lists.specs.Events.{Begins, in_hand};
+ghost use Rattle.event_lists.specs.Fences.{has_receipt};
 ghost use Rattle.event_lists.specs.Bins.{is_put};
 ghost use Rattle.event_laws.specs.Follows.{bin_of};
 ghost use Rattle.world_rule.specs.declared.view.Pending.TheVariants.{Drawn};
@@ -22,6 +23,8 @@ use crate::words::{QUIET_WORD, Words};
 use app_core::{CellName, Facts};
 use atomic_table::Seat;
 use event_laws::ListLaws;
+use event_laws::laws::{an_entry_to_erase_is_present, an_entry_to_put_is_absent};
+use event_laws::receipts::nothing_dropped_is_written;
 use std::marker::Brand;
 use world_rule::moves::{Joining, Packing};
 use world_rule::steps::{DrawEffect, RunParameters};
@@ -56,7 +59,8 @@ impl<A: Facts> Words<A> {
 }
 
 impl<A: ListLaws> Words<A> {
-    /// The bin's lane carries out a put that was drawn. The entry was not in the bin.
+    /// The bin's lane carries out a put that was drawn. The entry was not in the bin, and no fence whose receipt the lane
+    /// knows drops its version.
     pub fn put(&self, lane: &mut Lane, carrier: Carrier, name: CellName)
         requires table { (lane.old.table ≡ self.now.table) × (carrier.table ≡ self.now.table) }
         requires ranks { self.now.ranks ≡ A.ranks_of self.now.app }
@@ -67,14 +71,18 @@ impl<A: ListLaws> Words<A> {
         ensures grew { Grew self.now (A.may_do self.now.app) (Put name) (effect_in carrier.owed.pending) lane.old lane.new }
         ensures learnt { Begins carrier.seen lane.new.seen }
         ensures absent { is_put name lane.old.mine ≡ false }
+        ensures kept { (fence : ℕ) → has_receipt fence lane.old.seen ≡ true → Contains (A.dropped_of self.now.app fence) name.version → ⊥ }
     {
+        an_entry_to_put_is_absent();
+        nothing_dropped_is_written::<A>();
         let Carrier { seat, item: _ } = carrier;
         self.table.shared.join_seat::<Joining>(&mut lane.seat, seat);
         self.load_event::<Brand, CellName, ()>(&mut lane.seat, QUIET_WORD, lane.name, name, &());
         lane.spare -= 1;
     }
 
-    /// The bin's lane carries out an erase that was drawn. The entry was in the bin.
+    /// The bin's lane carries out an erase that was drawn. The entry was in the bin, and no fence whose receipt the lane
+    /// knows drops its version.
     pub fn erased(&self, lane: &mut Lane, carrier: Carrier, name: CellName)
         requires table { (lane.old.table ≡ self.now.table) × (carrier.table ≡ self.now.table) }
         requires ranks { self.now.ranks ≡ A.ranks_of self.now.app }
@@ -85,7 +93,10 @@ impl<A: ListLaws> Words<A> {
         ensures grew { Grew self.now (A.may_do self.now.app) (Erased name) (effect_in carrier.owed.pending) lane.old lane.new }
         ensures learnt { Begins carrier.seen lane.new.seen }
         ensures present { is_put name lane.old.mine ≡ true }
+        ensures kept { (fence : ℕ) → has_receipt fence lane.old.seen ≡ true → Contains (A.dropped_of self.now.app fence) name.version → ⊥ }
     {
+        an_entry_to_erase_is_present();
+        nothing_dropped_is_written::<A>();
         let Carrier { seat, item: _ } = carrier;
         self.table.shared.join_seat::<Joining>(&mut lane.seat, seat);
         self.load_event::<Brand, CellName, ()>(&mut lane.seat, QUIET_WORD, lane.name, name, &());

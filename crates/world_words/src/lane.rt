@@ -27,8 +27,19 @@ impl Model for Lane {
     ghost Value = { LaneView };
 
     ghost view = { λ l. record {
-        table = l.seat.table_id; name = l.name; mine = own_events l.seat.me.0.parts; seen = l.seat.me.0.seen; owes = l.seat.me.0.owes; progress = l.seat.me.0.progress;
-        set_stop = l.seat.me.0.set_stop; stop_looks = l.seat.me.0.stop_looks; saw_stop = l.seat.me.0.saw_stop; ran_looks = l.seat.me.0.ran_looks; submitted_looks = l.seat.me.0.submitted_looks; spare = l.spare } };
+      table = l.seat.table_id;
+      name = l.name;
+      mine = own_events l.seat.me.0.parts;
+      seen = l.seat.me.0.seen;
+      owes = l.seat.me.0.owes;
+      progress = l.seat.me.0.progress;
+      set_stop = l.seat.me.0.set_stop;
+      stop_looks = l.seat.me.0.stop_looks;
+      saw_stop = l.seat.me.0.saw_stop;
+      ran_looks = l.seat.me.0.ran_looks;
+      submitted_looks = l.seat.me.0.submitted_looks;
+      spare = l.spare;
+    } };
 
     ghost invariant = { λ l. IsLaneSeat l.seat.table_id l.name l.hand l.owes l.spare l.seat.me };
 }

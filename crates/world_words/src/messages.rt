@@ -34,8 +34,13 @@ impl<A: Facts> Words<A> {
     {
         let rank = lane.name.rank;
         let word = 16 * rank as usize + SENT;
-        let number =
-            self.add_event::<Brand, u32, Parcel>(&mut lane.seat, word, lane.name, to, &parcel);
+        let number = self.add_event::<Brand, u32, Parcel>(
+            &mut lane.seat,
+            word,
+            lane.name,
+            to,
+            &parcel,
+        );
         lane.spare -= 1;
         lane.owes = Some(Item::Message { rank, number });
         number

@@ -114,10 +114,8 @@ impl<A: App> Words<A> {
     pub fn begin(&self, lane: &mut Lane, effects: &Effects<A::Unit, A::Value, A::Cell>)
         requires table { lane.old.table ≡ self.now.table }
         requires new { (lane.old.progress ≡ None) × (since lane.old.mine ≡ 0) }
-        requires task {
-            (rank : ℕ) × (number : ℕ) × (task : TaskName) × (in_hand lane.old.mine ≡ Some (Task rank number)) × IsSubmitted rank number task lane.old.seen
-            × A.may_do self.now.app task.unit (outlines (A.label_of self.now.app) (A.due_of self.now.app) (A.home_of self.now.app) (A.kept_at self.now.app) self.now.ranks effects.now)
-        }
+        requires task { (rank : ℕ) × (number : ℕ) × (task : TaskName) × (in_hand lane.old.mine ≡ Some (Task rank number)) × IsSubmitted rank number task lane.old.seen
+            × A.may_do self.now.app task.unit (outlines (A.label_of self.now.app) (A.due_of self.now.app) (A.home_of self.now.app) (A.kept_at self.now.app) self.now.ranks effects.now) }
         ensures lane { lane.new ≡ record lane.old { seen = lane.new.seen; progress = Some (begun (in_hand lane.old.mine) (outlines (A.label_of self.now.app) (A.due_of self.now.app) (A.home_of self.now.app) (A.kept_at self.now.app) self.now.ranks effects.now)) } }
         ensures sees { SeesMore self.now (A.may_do self.now.app) lane.old lane.new }
     {

@@ -22,8 +22,11 @@ pub(crate) const STOP_WORD: usize = 16;
 
 /// Where a rank's counts are, from the 16 words of the rank on that the rank's number counts off.
 pub(crate) const SENT: usize = 32;
+
 pub(crate) const HANDLED: usize = 33;
+
 pub(crate) const SUBMITTED: usize = 34;
+
 pub(crate) const RAN: usize = 35;
 
 /// The table of counter words of some ranks, for an application.
@@ -45,8 +48,12 @@ impl<A: Facts> Model for Words<A> {
     ghost Value = { WordsView A };
 
     ghost view = { λ w. record {
-        table = w.table.shared.table_id; ranks = w.table.shared.key.ranks; workers = w.table.shared.key.workers; app = w.table.shared.key.app.value;
-        program = program_from 1 (A.kinds_of w.table.shared.key.app.value) (A.starts_of w.table.shared.key.app.value) } };
+      table = w.table.shared.table_id;
+      ranks = w.table.shared.key.ranks;
+      workers = w.table.shared.key.workers;
+      app = w.table.shared.key.app.value;
+      program = program_from 1 (A.kinds_of w.table.shared.key.app.value) (A.starts_of w.table.shared.key.app.value);
+    } };
 
     ghost invariant = { λ w. (w.table.shared.table_id.words ≡ word_count w.ranks) × (w.table.shared.key.ranks ≡ w.ranks) × (w.table.shared.key.workers ≡ w.workers) × (w.ranks ≤ 16) };
 }

@@ -22,4 +22,4 @@ pub lane-two-requires-clause-has : goal.lane-two-requires-clause-has
 lane-two-requires-clause-has g c =
     let had = subst (λ (ps : List OwnPart). Contains ps (empty_part second)) (sym c.in_ok-words.ensures.lanes.1) (root_has 2 0 second (omega arith, omega arith)) in
     subst (λ (r : RootView). Contains r.parts (empty_part second)) (sym c.lane-one.ensures.root)
-      (stay_in first c.in_ok-words.root.parts (empty_part second) had (λ e. let z : 1 ≡ 0 = ap (λ (l : LaneName). l.rank) e in omega arith))
+    (stay_in first c.in_ok-words.root.parts (empty_part second) had (λ e. let z : 1 ≡ 0 = ap (λ (l : LaneName). l.rank) e in omega arith))

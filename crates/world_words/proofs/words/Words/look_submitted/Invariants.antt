@@ -1,6 +1,6 @@
 use Rattle.std.specs.Prelude.{None}
 use Rattle.world_rule.specs.Owing.{no_event}
-use Rattle.world_rule.specs.Views.{no_lane, no_task, no_outline}
+use Rattle.world_rule.specs.Views.{no_task, no_outline}
 use Rattle.world_words.proofs.words.Words.look_submitted.Given as goal
 
 abbrev pub ghosts-look_submitted_as : goal.ghosts-look_submitted_as

@@ -1,6 +1,5 @@
 use Rattle.std.specs.Prelude.{None}
-use Rattle.world_rule.specs.Owing.{no_event}
-use Rattle.world_rule.specs.Views.{no_lane, no_task, no_outline}
+use Rattle.world_rule.specs.Views.{no_task, no_outline}
 use Rattle.event_lists.specs.declared.event.Event.TheVariants.{Receipt as Receives}
 use Rattle.world_words.proofs.words.Words.mark_receipt.Given as goal
 

@@ -1,6 +1,5 @@
 use Rattle.std.specs.Prelude.{None}
-use Rattle.world_rule.specs.Owing.{no_event}
-use Rattle.world_rule.specs.Views.{no_lane, no_task, no_outline}
+use Rattle.world_rule.specs.Views.{no_task, no_outline}
 use Rattle.event_lists.specs.Events.{in_hand}
 use Rattle.world_rule.specs.Owing.{ended}
 use Rattle.world_rule.specs.Views.{own_events}

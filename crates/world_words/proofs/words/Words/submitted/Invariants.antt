@@ -1,6 +1,4 @@
-use Rattle.std.specs.Prelude.{None}
-use Rattle.world_rule.specs.Owing.{no_event}
-use Rattle.world_rule.specs.Views.{no_lane, no_task, no_outline}
+use Rattle.world_rule.specs.Views.{no_task, no_outline}
 use Rattle.event_lists.specs.declared.event.Event.TheVariants.{Submitted}
 use Rattle.world_rule.specs.Steps.{effect_of}
 use Rattle.world_words.specs.Lanes.{task_name}

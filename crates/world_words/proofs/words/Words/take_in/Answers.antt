@@ -1,51 +1,23 @@
-use Rattle.std.proofs.Common.{rules, ◌≡◌, ◌⊎◌, ℕ, zero, suc, ◌+◌, ◌-◌, ◌*◌, ◌<◌, ◌≤◌, ◌^◌, ◌%◌, Bool, true, false, List, [], ◌∷◌, length, refl, sym, ap, subst, inl, inr, ◌∙◌, arith}
-use Rattle.std.specs.Prelude.{Option, Some, None, slice_get, ◌==◌, Contains}
-use Rattle.atomic_table.specs.Seated.{TableId}
+use Rattle.std.proofs.Common.{rules, ◌≡◌, ◌-◌, ◌<◌, ◌^◌, false, List, length, sym, ap, subst, ◌∙◌}
+use Rattle.std.specs.Prelude.{Option, Some, None}
 use Rattle.atomic_table.specs.Table.{Allows}
-use Rattle.app_core.specs.declared.label.Label.{Label}
-use Rattle.app_core.specs.declared.outline.Outline.{Outline}
-use Rattle.app_core.specs.Outlines.{outlines}
-use Rattle.app_core.specs.declared.outline.Outline.TheVariants as of
 use Rattle.event_lists.specs.declared.event.Event.{Event}
-use Rattle.event_lists.specs.declared.event.Event.TheVariants.{Sent, Handled, Submitted, Ran, Gave, Put, Erased, Enter, Leave, Receipt as Receives}
-use Rattle.event_lists.specs.declared.mark.Item.{Item}
-use Rattle.event_lists.specs.declared.mark.Item.TheVariants.{Message, Task}
-use Rattle.event_lists.specs.declared.mark.EffectName.{EffectName}
 use Rattle.event_lists.specs.declared.mark.Mark.{Mark}
-use Rattle.event_lists.specs.declared.lane.LaneName.{LaneName}
-use Rattle.event_lists.specs.declared.future.Bringer.TheVariants.{Main as main_at}
-use Rattle.event_lists.specs.declared.kind.Kind.TheVariants.{Handlings as handlings, Submissions as submissions, Runs as runs}
-use Rattle.event_lists.specs.Events.{Begins, main_of, in_hand, part, IsSubmitted}
-use Rattle.event_lists.specs.Counting.{MaySpawn, MaySubmit}
-use Rattle.event_lists.specs.Dues.{Dues, NeedsAreDues}
-use Rattle.event_lists.specs.Fences.{Fences, fence_in, enters, has_receipt, IsIdleIn}
-use Rattle.event_lists.specs.Futures.{is_fresh}
-use Rattle.event_lists.specs.Bins.{is_put}
-use Rattle.event_lists.specs.Legal.{Legal}
-use Rattle.event_lists.specs.OwnEvents.{IsNextReading, reading_event}
-use Rattle.event_laws.specs.Follows.{Wait, Doing, Follows, IsRun, program_from, program_at, deeds, since, bin_of}
-use Rattle.event_laws.proofs.EntryLemmas.{put_finds_none, erase_finds_it}
+use Rattle.event_lists.specs.Events.{in_hand}
 use Rattle.world_rule.specs.declared.view.Pending.{Pending}
-use Rattle.world_rule.specs.declared.view.Pending.TheVariants.{Counted, Drawn}
-use Rattle.world_rule.specs.declared.view.Load.TheVariants.{OfEffect}
+use Rattle.world_rule.specs.declared.view.Pending.TheVariants.{Counted}
 use Rattle.world_rule.specs.declared.view.Owed.{Owed}
-use Rattle.world_rule.specs.declared.view.Progress.{Progress}
 use Rattle.world_rule.specs.declared.view.View.{View}
-use Rattle.world_rule.specs.Owing.{owed, took, ended, effect_in, Made, IsCounted, NeedsKnown}
-use Rattle.world_rule.specs.Views.{mark, numbered, own_events, empty_part, first_of, begun, further, next_outline, after_look, after_stop, after_stop_look, after_begin, stored_outline}
-use Rattle.world_rule.specs.CounterWords.{place, word_at}
+use Rattle.world_rule.specs.Owing.{took, Made, IsCounted, NeedsKnown}
+use Rattle.world_rule.specs.Views.{mark, numbered, first_of}
 use Rattle.world_rule.specs.Shows.{ShowsOneRun}
-use Rattle.world_rule.specs.Steps.{M, Appends, BeginsTask, IsNextEffect, KnowsStored, effect_of}
+use Rattle.world_rule.specs.Steps.{Appends}
 use Rattle.world_rule.proofs.PendingLemmas.{made_begins}
-use Rattle.world_rule.proofs.SeatLemmas.{tells, packs, unites}
-use Rattle.world_rule.proofs.NewLaneLemmas.{gives_lane}
-use Rattle.world_rule.proofs.OpeningLemmas.{opens}
-use Rattle.world_rule.proofs.LookLemmas.{begins, draws, looks, sees_count, sets_stop, finds_stop}
-use Rattle.world_rule.proofs.EventKindLemmas.{read_numbered, sends_one, submits_one, gives_one, takes_one, handles_one, enters_one, leaves_one, receives_one, reads_one, counted_item}
-use Rattle.world_rule.proofs.TaskEndLemmas.{runs_one, stores_one, store_own}
-use Rattle.world_words.specs.Lanes.{WordsView, LaneView, CarrierView, ToldView, SeesMore, Grew, task_name}
-use Rattle.world_words.specs.Seats.{the_owed, the_task, the_outline, owed_item}
-use Rattle.world_words.proofs.LaneSeatLemmas.{lane_view, lane_room, sees_more, looked_seat, grew, grown_seat, took_in, loaded_seat, loaded_view, grew_unloaded, learnt, told_seat, ended_numbered, drew_seat, took_numbered, stored_next, rank_below}
+use Rattle.world_rule.proofs.SeatLemmas.{unites}
+use Rattle.world_rule.proofs.EventKindLemmas.{takes_one, counted_item}
+use Rattle.world_words.specs.Lanes.{LaneView, CarrierView, Grew}
+use Rattle.world_words.specs.Seats.{the_owed}
+use Rattle.world_words.proofs.LaneSeatLemmas.{lane_view, lane_room, grew, took_in, loaded_seat, loaded_view, grew_unloaded, learnt, took_numbered}
 use Rattle.world_words.proofs.words.Words.take_in.Goals as goal
 
 pub join_seat-requires : goal.join_seat-requires
@@ -76,11 +48,11 @@ load_event-requires-clause-step g c =
     let told : n.0.told ≡ d.seat.me.0.seen = ap (λ (v : View). v.told) t in
     let known : NeedsKnown o.pending d.seat.me.0.seen i.seat.me.0.seen = subst (λ (v : LaneView). NeedsKnown o.pending d.seat.me.0.seen v.seen) is (subst (λ (p : CarrierView). NeedsKnown p.owed.pending p.seen a.lane.now.seen) held c.requires.needs) in
     subst (λ (z : Pending). Allows (ShowsOneRun a.self.now.ranks a.self.now.workers a.self.now.program may) a.self.now.table.slots c.join_seat.new.seat.id n 0 (λ m. m) (Appends a.self.now.ranks a.self.now.workers a.self.now.program may i.name (took z) None n)) (sym event)
-      (takes_one a.self.now.ranks a.self.now.workers a.self.now.program may _ _ n i.name _ k.1
-      (subst (λ (es : List Event). length es < 2 ^ 48) (sym k.2) room) k.0 hand_lane o k.3 to one.0 one.1
-      (ap in_hand k.2 ∙ idle)
-      (subst (Made o) (sym told) (carried.made counted))
-      (subst (λ (z : Pending). NeedsKnown z n.0.told n.0.seen) one.1 (subst (NeedsKnown o.pending n.0.told) (sym (ap (λ (v : View). v.seen) t)) (subst (λ (log : List Mark). NeedsKnown o.pending log i.seat.me.0.seen) (sym told) known))))
+    (takes_one a.self.now.ranks a.self.now.workers a.self.now.program may _ _ n i.name _ k.1
+    (subst (λ (es : List Event). length es < 2 ^ 48) (sym k.2) room) k.0 hand_lane o k.3 to one.0 one.1
+    (ap in_hand k.2 ∙ idle)
+    (subst (Made o) (sym told) (carried.made counted))
+    (subst (λ (z : Pending). NeedsKnown z n.0.told n.0.seen) one.1 (subst (NeedsKnown o.pending n.0.told) (sym (ap (λ (v : View). v.seen) t)) (subst (λ (log : List Mark). NeedsKnown o.pending log i.seat.me.0.seen) (sym told) known))))
 
 pub returns-clause-grew : goal.returns-clause-grew
 returns-clause-grew g c =
@@ -99,12 +71,12 @@ returns-clause-grew g c =
     let s = c.load_event.ensures in
     let owes : Option Owed = first_of i.seat.me.0.owes (Some o) in
     let view : lane_view c.join_seat.new.seat.table_id i.name i.spare n ≡ record a.lane.now { owes = owes } =
-      loaded_view i.seat.table_id c.join_seat.new.seat.table_id i.name i.spare i.seat.me n d.seat.me.0.seen owes t c.join_seat.ensures.0 ∙ ap (λ (v : LaneView). record v { owes = owes }) c.lane.view_is in
+    loaded_view i.seat.table_id c.join_seat.new.seat.table_id i.name i.spare i.seat.me n d.seat.me.0.seen owes t c.join_seat.ensures.0 ∙ ap (λ (v : LaneView). record v { owes = owes }) c.lane.view_is in
     let held = sym c.carrier.view_is in
     let counted : IsCounted o.pending = subst (λ (p : CarrierView). IsCounted p.owed.pending) held c.requires.item.0 in
     let event : numbered c.load_event.result (took (the_owed n.0.owes).pending) ≡ took a.carrier.owed.pending = took_numbered c.load_event.result (the_owed n.0.owes).pending ∙ ap (λ q. took (the_owed q).pending) k.3 ∙ ap (λ (p : CarrierView). took p.owed.pending) c.carrier.view_is in
     subst (λ (e : Event). Grew a.self.now may e None a.lane.now (lane_view c.load_event.new.seat.table_id i.name (i.spare - 1) c.load_event.new.seat.me)) event
-      (grew_unloaded a.self.now may _ None owes a.lane.now _ (grew a.self.now may i.name (took (the_owed n.0.owes).pending) None n c.load_event.result c.load_event.new.seat.me c.join_seat.new.seat.table_id c.load_event.new.seat.table_id i.spare (record a.lane.now { owes = owes }) view c.requires.room s.0 s.1))
+    (grew_unloaded a.self.now may (numbered c.load_event.result (took (the_owed n.0.owes).pending)) None owes a.lane.now (lane_view c.load_event.new.seat.table_id i.name (i.spare - 1) c.load_event.new.seat.me) (grew a.self.now may i.name (took (the_owed n.0.owes).pending) None n c.load_event.result c.load_event.new.seat.me c.join_seat.new.seat.table_id c.load_event.new.seat.table_id i.spare (record a.lane.now { owes = owes }) view c.requires.room s.0 s.1))
 
 pub returns-clause-learnt : goal.returns-clause-learnt
 returns-clause-learnt g c =
@@ -120,7 +92,7 @@ returns-clause-learnt g c =
     let none : i.seat.me.0.owes ≡ None = ap (λ (v : LaneView). v.owes) c.lane.view_is ∙ c.requires.free.0 in
     let t = took_in i.seat.table_id i.name i.hand i.owes (Some o) i.spare i.seat.me d.seat.me n seat carried.passive c.join_seat.ensures.2 in
     let k = loaded_seat i.seat.table_id c.join_seat.new.seat.table_id i.name i.hand i.owes d.item o i.spare i.seat.me d.seat.me n seat carried.passive c.join_seat.ensures.2 none c.join_seat.ensures.0 in
-    learnt a.self.now.ranks a.self.now.workers a.self.now.program may _ n.0 c.load_event.new.seat.me.0 a.carrier.seen (ap (λ (v : View). v.told) t ∙ ap (λ (p : CarrierView). p.seen) c.carrier.view_is) c.load_event.ensures.1.0
+    learnt a.self.now.ranks a.self.now.workers a.self.now.program may (mark i.name (numbered c.load_event.result (took (the_owed n.0.owes).pending)) None) n.0 c.load_event.new.seat.me.0 a.carrier.seen (ap (λ (v : View). v.told) t ∙ ap (λ (p : CarrierView). p.seen) c.carrier.view_is) c.load_event.ensures.1.0
 
 pub returns-clause-made : goal.returns-clause-made
 returns-clause-made g c =
@@ -137,5 +109,5 @@ returns-clause-made g c =
     let t = took_in i.seat.table_id i.name i.hand i.owes (Some o) i.spare i.seat.me d.seat.me n seat carried.passive c.join_seat.ensures.2 in
     let k = loaded_seat i.seat.table_id c.join_seat.new.seat.table_id i.name i.hand i.owes d.item o i.spare i.seat.me d.seat.me n seat carried.passive c.join_seat.ensures.2 none c.join_seat.ensures.0 in
     let counted : IsCounted o.pending = subst (λ (p : CarrierView). IsCounted p.owed.pending) (sym c.carrier.view_is) c.requires.item.0 in
-    let knows = learnt a.self.now.ranks a.self.now.workers a.self.now.program may _ n.0 c.load_event.new.seat.me.0 d.seat.me.0.seen (ap (λ (v : View). v.told) t) c.load_event.ensures.1.0 in
+    let knows = learnt a.self.now.ranks a.self.now.workers a.self.now.program may (mark i.name (numbered c.load_event.result (took (the_owed n.0.owes).pending)) None) n.0 c.load_event.new.seat.me.0 d.seat.me.0.seen (ap (λ (v : View). v.told) t) c.load_event.ensures.1.0 in
     subst (λ (p : CarrierView). Made p.owed c.load_event.new.seat.me.0.seen) c.carrier.view_is (made_begins o d.seat.me.0.seen c.load_event.new.seat.me.0.seen knows (carried.made counted))
