@@ -77,6 +77,18 @@ fence
 JOB
 }
 
+# A job that makes full trees of a function, so many, and coarsens each so often, with a fence after each time; and then
+# counts the keys.
+coarsened_trees() {
+    local depth=$1 function=$2 times=$3 coarsens=$4 i j
+    printf 'job 1 depth %s\n' "$depth"
+    for ((i = 0; i < times; i++)); do
+        printf 'project f %s level %s tol 0\n' "$function" "$depth"
+        for ((j = 0; j < coarsens; j++)); do printf 'coarsen f\nfence\n'; done
+    done
+    printf 'size f\n'
+}
+
 full='project f ramp 0 1 level 16 tol 0'
 header=$'job 1 depth 0\n'
 job 16 "$full" 1 'print f' 31 >"$room/full tree, 31 prints"
@@ -88,6 +100,8 @@ fill "$header" 'a ' 1048576 >"$room/one-letter words, 1 MiB"
 longest_job >"$room/512 commands, 1 MiB"
 fill "$header#" 'x' 1048577 >"$room/one byte too long"
 for depth in 12 14 16; do full_trees $depth >"$room/nearly full trees at depth $depth"; done
+coarsened_trees 16 'const 5' 16 1 >"$room/full trees coarsened to the root"
+coarsened_trees 16 'ramp 0 1' 1 24 >"$room/a full tree coarsened, all keys stay"
 
 # The wall time of one run of a program with a word, in microseconds.
 micros() {
@@ -146,4 +160,6 @@ done
 [ -n "$serial" ] || exit 0
 echo
 heads serial
-for depth in 12 14 16; do measure "$serial" serial "nearly full trees at depth $depth"; done
+for name in "nearly full trees at depth "{12,14,16} 'full trees coarsened to the root' 'a full tree coarsened, all keys stay'; do
+    measure "$serial" serial "$name"
+done
