@@ -1,4 +1,4 @@
--- Lemmas that crates above use: a version is dropped at the fence of its last use.
+-- A version is dropped at the fence of its last use.
 use Rattle.std.proofs.Common.{◌≡◌, ℕ, zero, suc, ◌+◌, ◌-◌, ◌<◌, ◌≤◌, max, ◌≢◌, Bool, true, false, not, ◌&&◌, ◌||◌, cond, eqb, List, [], ◌∷◌, ◌++◌, length, take, drop, get_or, set, filter, Option, Some, None, inl, inr, refl, sym, ◌∙◌, ap, subst, arith, append-nil, ne_eqb}
 use Rattle.std.specs.Prelude.{IfSome, nat_le, if◌then◌else◌}
 use Rattle.std.specs.List.{fold, list_all, list_any, range_with_len}

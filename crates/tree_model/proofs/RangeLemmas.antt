@@ -1,4 +1,4 @@
--- Ranges of numbers, in parts.
+-- Lemmas that crates above use: ranges of numbers, in parts.
 use Rattle.std.proofs.Common.{◌≡◌, ℕ, zero, suc, ◌+◌, ◌-◌, ◌≤◌, [], ◌∷◌, ◌++◌, take, drop, map, Bool, ◌&&◌, true, false, refl, ◌∙◌, ap, subst, arith, add-zero, zero-add}
 use Rattle.std.specs.List.{range_with_len, list_all, drop-map}
 use Rattle.std.proofs.lemmas.List.Folds.{list_all-append}
