@@ -1,4 +1,4 @@
--- Effects that were carried out: the marks that name them.
+-- Lemmas that crates above use: effects that were carried out: the marks that name them.
 use Rattle.std.proofs.Common.{◌≡◌, ℕ, true, false, List, [], ◌∷◌, ◌++◌, refl, sym, ap, ◌∙◌, subst, ⊎_elim}
 use Rattle.std.specs.Prelude.{◌==◌, ◌&&◌, Option, Some, None}
 use Rattle.std.proofs.lemmas.Bool.{and_parts, eqb-true, or_cases, or_left, and_from, eq-eqb}

@@ -26,3 +26,5 @@ pub mod GiveLemmas
 pub mod EraseLemmas
 pub mod SmallRunLemmas
 pub mod LateWriteLemmas
+pub mod MainSpawnLemmas
+pub mod GrowingRunLemmas

@@ -9,3 +9,5 @@ pub mod Laws
 pub mod Totals
 pub mod Runs
 pub mod Receipts
+pub mod Mains
+pub mod Growth

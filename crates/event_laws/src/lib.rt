@@ -8,6 +8,7 @@
 #![tactic(auto)]
 
 pub mod examples;
+pub mod growth;
 pub mod laws;
 mod list_laws;
 pub mod receipts;
