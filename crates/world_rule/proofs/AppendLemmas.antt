@@ -30,7 +30,7 @@ use Rattle.world_rule.specs.declared.view.OwnPart.{OwnPart}
 use Rattle.world_rule.specs.declared.view.Progress.{Progress}
 use Rattle.world_rule.specs.declared.view.View.{View}
 use Rattle.world_rule.proofs.PendingLemmas.{appended_view, left_more, claimed_plain, makes_of, made_times, made_effect, counted_or_drawn, owner_with, stays_borne, bears}
-use Rattle.world_rule.proofs.ViewLemmas.{follows_more, its, appends}
+use Rattle.world_rule.proofs.ViewLemmas.{its, appends}
 use Rattle.world_rule.proofs.CounterWordLemmas.{count_fits}
 use Rattle.world_rule.proofs.ContainsLemmas.{contains_first, contains_one}
 use Rattle.std.specs.Prelude.{Contains}
@@ -39,6 +39,7 @@ use Rattle.world_rule.specs.Views.{mark, numbered, own_part, own_events, progres
 use Rattle.world_rule.specs.CounterWords.{stop_word, WordsShow}
 use Rattle.world_rule.specs.Shows.{DrawnCounts, IsDrawn, IsMadeOrDrawn, ItsTaskIsInHand, ShowsOneRun}
 use Rattle.world_rule.specs.Steps.{M, Appends}
+use Rattle.event_laws.proofs.GrowingRunLemmas.{one_more_follows}
 
 -- what is in hand after an event was taken by it, or was in hand
 pub hand_event : (e : Event) (h : Option Item) (c : Item) → hand_after e h ≡ Some c → (takes e ≡ Some c) ⊎ (h ≡ Some c)
@@ -196,7 +197,7 @@ module _ (ranks workers : ℕ) (program : List Doing) (may : Label → List Outl
             told = fit.told;
             own = part_own x.lane x k.log refl ∙ ap (λ es. ev ∷ es) (lane.1 ∙ sym own_was);
             changes = appended_view me.0 l ev mine _ _ own_was (ap (progress_after ev) none ∙ doing_none ev);
-            run = record { task_effects = k.task_effects; run = record { legal = legal; follows = follows_more program may k.task_effects k.log x mine lane.1 (goes n k.task_effects k.log) k.follows }; begun = λ b e'. absurd (cc) };
+            run = record { task_effects = k.task_effects; run = record { legal = legal; follows = one_more_follows program may k.task_effects k.log x mine lane.1 (goes n k.task_effects k.log) k.follows }; begun = λ b e'. absurd (cc) };
           },
           refl,
         ),

@@ -1,4 +1,4 @@
--- Lemmas about the elements of a list that begins with one.
+-- Lemmas that crates above use: the elements of a list that begins with one.
 use Rattle.std.proofs.Common.{◌≡◌, ◌⊎◌, zero, suc, List, [], ◌∷◌, refl, inl, inr, arith}
 use Rattle.std.specs.Prelude.{Contains, map}
 

@@ -1,4 +1,4 @@
--- Each kind of event, from what the lane's own view shows.
+-- Lemmas that crates above use: each kind of event, from what the lane's own view shows.
 use Rattle.std.proofs.Common.{◌≡◌, ◌≢◌, ℕ, suc, ◌+◌, ◌^◌, ◌%◌, ◌<◌, ◌≤◌, Bool, true, false, List, [], ◌∷◌, length, refl, sym, ap, ◌∙◌, subst, inl, inr, arith}
 use Rattle.std.specs.Prelude.{Some, None, slice_index, slice_get}
 use Rattle.atomic_table.specs.Table.{Allows}

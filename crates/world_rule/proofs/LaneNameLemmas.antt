@@ -1,4 +1,4 @@
--- The lanes of all ranks.
+-- Lemmas that crates above use: the lanes of all ranks.
 use Rattle.std.proofs.Common.{List, [], map, ◌∷◌, ◌≡◌, ◌≢◌, ℕ, zero, suc, ◌<◌, ◌≤◌, Bool, true, false, ◌++◌, refl, sym, ap, subst, ⊎_elim, arith}
 use Rattle.std.proofs.lemmas.Bool.{cases_eq}
 use Rattle.event_lists.specs.declared.lane.LaneName.{LaneName}

@@ -1,7 +1,7 @@
--- Steps without an event: a task is begun, an effect is drawn, a word is looked at.
+-- Lemmas that crates above use: steps without an event: a task is begun, an effect is drawn, a word is looked at.
 use Rattle.std.proofs.Common.{◌<◌, ◌≡◌, ◌⊎◌, ℕ, zero, suc, ◌+◌, ◌≤◌, Bool, true, false, List, [], ◌∷◌, take, set, refl, sym, ap, ◌∙◌, subst, inl, inr, ⊎_elim, arith, get_or-set_same}
-use Rattle.std.specs.Prelude.{Option, Some, None, slice_index, slice_get, if◌then◌else◌, ◌==◌, ◌&&◌}
-use Rattle.std.proofs.lemmas.Bool.{cases_Bool, or_cases, eq-eqb, eqb-true, and_parts, and_from, both_ways}
+use Rattle.std.specs.Prelude.{Some, None, slice_index, slice_get, if◌then◌else◌, ◌==◌, ◌&&◌}
+use Rattle.std.proofs.lemmas.Bool.{cases_Bool, eq-eqb, eqb-true, and_parts, and_from, both_ways}
 use mathlib.Core.Option.{some}
 use lib.ListN.{get_elem?}
 use Rattle.atomic_table.specs.Table.{keeps, stepped, Allows}
@@ -9,17 +9,16 @@ use Rattle.app_core.specs.declared.label.Label.{Label}
 use Rattle.app_core.specs.declared.outline.Outline.{Outline}
 use Rattle.event_lists.specs.declared.lane.LaneName.{LaneName}
 use Rattle.event_lists.specs.declared.event.Event.{Event}
-use Rattle.event_lists.specs.declared.event.Event.TheVariants.{Sent, Submitted, Ran, Gave, Put, Erased}
+use Rattle.event_lists.specs.declared.event.Event.TheVariants.{Submitted}
 use Rattle.event_lists.specs.declared.event.TaskName.{TaskName}
-use Rattle.event_lists.specs.declared.mark.Item.{Item}
-use Rattle.event_lists.specs.declared.mark.Item.TheVariants.{Message, Task}
+use Rattle.event_lists.specs.declared.mark.Item.TheVariants.{Task}
 use Rattle.world_rule.specs.declared.view.Pending.{Pending}
 use Rattle.world_rule.specs.declared.view.Pending.TheVariants.{Counted, Drawn}
 use Rattle.event_lists.specs.declared.mark.Mark.{Mark}
-use Rattle.event_lists.specs.Events.{count, part, is_taken, in_hand, IsSubmitted}
+use Rattle.event_lists.specs.Events.{count, is_taken, in_hand, IsSubmitted}
 use Rattle.event_lists.proofs.HandLemmas.{hand_rank}
 use Rattle.event_lists.proofs.ListLemmas.{begins_refl, begins_empty, on_begins}
-use Rattle.event_laws.specs.Follows.{TaskEffects, Doing, Follows, FollowsBy, Goes, Acts, CarriesOut, Planned, owns, since, is_own, is_effect, carried_out, effect_name}
+use Rattle.event_laws.specs.Follows.{TaskEffects, Doing, Follows, Planned, owns, since, is_own, carried_out, effect_name}
 use Rattle.world_rule.specs.declared.view.Load.TheVariants.{OfEffect}
 use Rattle.world_rule.specs.declared.view.Owed.{Owed}
 use Rattle.world_rule.specs.declared.view.OwnPart.{OwnPart}
@@ -28,7 +27,6 @@ use Rattle.world_rule.specs.declared.view.CountLooks.{CountLooks}
 use Rattle.world_rule.specs.declared.view.View.{View}
 use Rattle.event_lists.specs.declared.kind.Kind.{Kind}
 use Rattle.event_lists.specs.declared.kind.Kind.TheVariants.{Sends as sends, Handlings as handlings, Submissions as submissions, Runs as runs}
-use Rattle.event_laws.proofs.EffectMarkLemmas.{effect_by}
 use Rattle.world_rule.proofs.PendingLemmas.{owner_with, borne, not_borne}
 use Rattle.world_rule.proofs.ViewLemmas.{St, set_view, if_true, if_false, owing_apart, owing_grows, rewitness, replaces}
 use Rattle.std.specs.Prelude.{bit_or}
@@ -41,36 +39,7 @@ use Rattle.world_rule.specs.Views.{progress, further, seeing, after_begin, after
 use Rattle.world_rule.specs.CounterWords.{word_at, stop_word, StopWordShows}
 use Rattle.world_rule.specs.Shows.{DrawnCounts, IsMadeOrDrawn, ItsTaskIsInHand, LooksShow, ProgressShows, ViewShows, ShowsOneRun, drawn_more, drawn_none, with_effects}
 use Rattle.world_rule.specs.Steps.{IsUnderWay, SeesRun, SeesCount, Looked, M, Finds, BeginsTask, DrawsEffect, SetsStop, SeesStop}
-
--- a plan that was made stays, and what follows by the task_effects follows by more
-carries_grow : (p q : TaskEffects) (log : List Mark) (x : Mark) (r n i : ℕ) → ((r n : ℕ) (os : List Outline) → p r n ≡ Some os → q r n ≡ Some os) → CarriesOut p log x r n i → CarriesOut q log x r n i
-carries_grow p q log x r n i f c = record { os = c.os; o = c.o; plan = f r n c.os c.plan; here = c.here; says = c.says; rank = c.rank; effect = c.effect; taken = c.taken; once = c.once; before = c.before; turn = c.turn }
-
-goes_grow : (program : List Doing) (p q : TaskEffects) (log : List Mark) (x : Mark) (mine : List Event) (e : Event) → ((r n : ℕ) (os : List Outline) → p r n ≡ Some os → q r n ≡ Some os) → Goes program p log x mine e → Goes program q log x mine e
-goes_grow program p q log x mine e f g = by_event e g
-  where
-    acts : (h : Option Item) → Acts program p log x mine h → Acts program q log x mine h
-    acts None a = a
-    acts (Some (Message r n)) a = a
-    acts (Some (Task r n)) (i, c) = (i, carries_grow p q log x r n i f c)
-
-    by_event : (e : Event) → Goes program p log x mine e → Goes program q log x mine e
-    by_event (Sent n to w) g = acts (in_hand mine) g
-    by_event (Submitted n t) g = acts (in_hand mine) g
-    by_event (Gave l) g = acts (in_hand mine) g
-    by_event (Put m) (r, n, i, c, b) = (r, n, i, carries_grow p q log x r n i f c, b)
-    by_event (Erased m) (r, n, i, c, b) = (r, n, i, carries_grow p q log x r n i f c, b)
-    by_event (Ran n r t) (h, e) = (record { os = h.os; plan = f r t h.os h.plan; turn = h.turn; before = h.before }, e)
-    by_event _ g = g
-
-follows_grow : (program : List Doing) (p q : TaskEffects) (log : List Mark) → ((r n : ℕ) (os : List Outline) → p r n ≡ Some os → q r n ≡ Some os) → FollowsBy program p log → FollowsBy program q log
-follows_grow program p q [] f g = g
-follows_grow program p q (x ∷ log) f g = (goes_grow program p q log x (part x.lane log) x.event f g.0, follows_grow program p q log f g.1)
-
--- an effect that was carried out is one of a begun task
-pub gone_planned : (program : List Doing) (p : TaskEffects) (log : List Mark) (r n i : ℕ) → FollowsBy program p log → carried_out r n i log ≡ true → (os : List Outline) × (p r n ≡ Some os)
-gone_planned program p [] r n i g t = absurd (cc)
-gone_planned program p (x ∷ log) r n i g t = ⊎_elim (λ here. let c = effect_by program p log x g.0 r n i here in (c.os, c.plan)) (λ before. gone_planned program p log r n i g.1 before) (or_cases (is_effect r n i x.effect) (carried_out r n i log) t)
+use Rattle.event_laws.proofs.GrowingRunLemmas.{more_follow, carried_is_begun}
 
 -- one more effect
 pub owns_next : (os : List Outline) (i : ℕ) (o : Outline) → slice_get os i ≡ Some o → owns (take (suc i) os) ≡ (if is_own o then 1 else 0) + owns (take i os)
@@ -107,7 +76,7 @@ module _ (ranks workers : ℕ) (program : List Doing) (may : Label → List Outl
       let none : k.task_effects r n ≡ None = fit.idle idle here r n has hand in
       let grow : (q m : ℕ) (ps : List Outline) → k.task_effects q m ≡ Some ps → task_effects q m ≡ Some ps = λ q m ps e. one_place r n q m (Some os) (k.task_effects q m) (λ a c. absurd (let z : k.task_effects r n ≡ Some ps = (λ i. k.task_effects (a i) (c i)) ∙ e in let y : None ≡ Some ps = sym none ∙ z in cc)) ∙ e in
       let more : (q m : ℕ) (ps : List Outline) → k.task_effects q m ≡ Some ps → drawn q m ≡ k.drawn q m = λ q m ps e. one_place r n q m 0 (k.drawn q m) (λ a c. absurd (let z : k.task_effects r n ≡ Some ps = (λ i. k.task_effects (a i) (c i)) ∙ e in let y : None ≡ Some ps = sym none ∙ z in cc)) in
-      let follows : Follows program may task_effects k.log = record { planned = λ q m ps e. new s k q m ps mine_is.1 (made.0, made.1, on_begins made.0 (Submitted n task) me.0.seen k.log fit.seen made.2) (cases_Bool ((q == r) && (m == n))) e; goes = follows_grow program k.task_effects task_effects k.log grow k.follows.goes } in
+      let follows : Follows program may task_effects k.log = record { planned = λ q m ps e. new s k q m ps mine_is.1 (made.0, made.1, on_begins made.0 (Submitted n task) me.0.seen k.log fit.seen made.2) (cases_Bool ((q == r) && (m == n))) e; goes = more_follow program k.task_effects task_effects k.log grow k.follows.goes } in
       let w : View = seeing k.log (after_begin b me.0) in (
         w,
         keeps,
@@ -134,7 +103,7 @@ module _ (ranks workers : ℕ) (program : List Doing) (may : Label → List Outl
                 plan = that_place r n (Some os) (k.task_effects r n);
                 drawn_is = that_place r n 0 (k.drawn r n);
                 turn = sym fresh;
-                left = λ i le. ⊎_elim (λ t. let p = gone_planned program k.task_effects k.log r n i k.follows.goes t in absurd (let y : None ≡ Some p.0 = sym none ∙ p.1 in cc)) (λ f. f) (cases_Bool (carried_out r n i k.log));
+                left = λ i le. ⊎_elim (λ t. let p = carried_is_begun program k.task_effects k.log r n i k.follows.goes t in absurd (let y : None ≡ Some p.0 = sym none ∙ p.1 in cc)) (λ f. f) (cases_Bool (carried_out r n i k.log));
               });
               idle = λ e q a c h i. absurd (cc);
             }),

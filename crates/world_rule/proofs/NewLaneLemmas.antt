@@ -1,4 +1,4 @@
--- A lane is made of the first seat.
+-- Lemmas that crates above use: a lane is made of the first seat.
 use Rattle.std.proofs.Common.{arith, ◌≡◌, ◌≢◌, ◌⊎◌, ℕ, Bool, true, false, List, [], ◌∷◌, length, refl, sym, ap, ◌∙◌, subst, inl, inr}
 use Rattle.std.specs.Prelude.{Some, None, if◌then◌else◌}
 use Rattle.atomic_table.specs.Table.{Splits}

@@ -1,4 +1,4 @@
--- The rule holds of a table whose words are all 0 and whose first seat has all lanes.
+-- Lemmas that crates above use: the rule holds of a table whose words are all 0 and whose first seat has all lanes.
 use Rattle.std.proofs.Common.{◌≡◌, ◌⊎◌, ℕ, zero, suc, ◌≤◌, true, false, List, [], ◌∷◌, length, refl, sym, ap, ◌∙◌, subst, inl, ⊎_elim, arith}
 use Rattle.std.specs.Prelude.{Some, None, slice_index}
 use mathlib.Core.Option.{some, some-ne-none, some-injective}

@@ -1,4 +1,4 @@
--- Items: what is gone, what was made, and who has it.
+-- Lemmas that crates above use: what is pending, what settles it, what was made, and who owes it.
 use Rattle.std.proofs.Common.{◌≡◌, ◌≢◌, ◌⊎◌, ℕ, ◌≤◌, Bool, true, false, List, [], ◌∷◌, ◌++◌, refl, sym, ap, ◌∙◌, subst, inl, inr, ⊎_elim}
 use Rattle.std.specs.Prelude.{Option, Some, None, if◌then◌else◌, ◌==◌, ◌&&◌}
 use Rattle.std.proofs.lemmas.Bool.{cases_Bool, or_from, or_right, eq-eqb, eqb-true, and_parts, and_from}

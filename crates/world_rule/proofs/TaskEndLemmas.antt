@@ -1,4 +1,4 @@
--- A task ends, and a drawn put or erase is carried out.
+-- Lemmas that crates above use: a task ends, and a drawn put or erase is carried out.
 use Rattle.std.proofs.Common.{◌≡◌, ◌≢◌, ℕ, zero, suc, ◌+◌, ◌^◌, ◌%◌, ◌<◌, Bool, true, false, List, [], ◌∷◌, length, take, refl, sym, ap, ◌∙◌, subst, inl, inr, arith}
 use Rattle.std.specs.Prelude.{Some, None, slice_index, slice_get, if◌then◌else◌}
 use Rattle.std.proofs.lemmas.Bool.{both_ways}
@@ -31,7 +31,7 @@ use Rattle.world_rule.specs.declared.view.OwnPart.{OwnPart}
 use Rattle.world_rule.specs.declared.view.Progress.{Progress}
 use Rattle.world_rule.specs.declared.view.View.{View}
 use Rattle.world_rule.proofs.PendingLemmas.{appended_view, gone_begins, settled_drawn, claimed_plain, made_effect}
-use Rattle.world_rule.proofs.ViewLemmas.{follows_more, its, appends, owing_apart}
+use Rattle.world_rule.proofs.ViewLemmas.{its, appends, owing_apart}
 use Rattle.world_rule.proofs.CounterWordLemmas.{count_fits, words_same, words_add, stop_same, stop_add}
 use Rattle.world_rule.proofs.AppendLemmas.{Conditions, may_come, only_here, undone}
 use Rattle.world_rule.proofs.ContainsLemmas.{contains_first}
@@ -41,6 +41,7 @@ use Rattle.world_rule.specs.Views.{mark, numbered, own_part, own_events, progres
 use Rattle.world_rule.specs.CounterWords.{place, word_at}
 use Rattle.world_rule.specs.Shows.{DrawnCounts, IsMadeOrDrawn, ShowsOneRun}
 use Rattle.world_rule.specs.Steps.{Appended, M, Appends, KnowsStored}
+use Rattle.event_laws.proofs.GrowingRunLemmas.{one_more_follows}
 
 only_runs : (n r t : ℕ) (j : Kind) → place j ≢ place runs → is_kind j (Ran n r t) ≡ false
 only_runs n r t sends a = refl
@@ -138,7 +139,7 @@ module _ (ranks workers : ℕ) (program : List Doing) (may : Label → List Outl
             told = fit.told;
             own = part_own x.lane x k.log refl ∙ ap (λ es. ev ∷ es) (lane.1 ∙ sym (ap own_events alone));
             changes = appended_view me.0 l ev mine _ _ (ap own_events alone) refl;
-            run = record { task_effects = k.task_effects; run = record { legal = (may_x, k.legal); follows = follows_more program may k.task_effects k.log x mine lane.1 (done, refl) k.follows }; begun = λ c e. absurd (cc) };
+            run = record { task_effects = k.task_effects; run = record { legal = (may_x, k.legal); follows = one_more_follows program may k.task_effects k.log x mine lane.1 (done, refl) k.follows }; begun = λ c e. absurd (cc) };
           },
           refl,
         ),
@@ -201,7 +202,7 @@ module _ (ranks workers : ℕ) (program : List Doing) (may : Label → List Outl
         told = fit.told;
         own = part_own x.lane x k.log refl ∙ ap (λ es. ev ∷ es) (lane.1 ∙ sym (ap own_events alone));
         changes = appended_view me.0 l ev mine _ _ (ap own_events alone) (ap (progress_after ev) calm ∙ after);
-        run = record { task_effects = k.task_effects; run = record { legal = (may_x, k.legal); follows = follows_more program may k.task_effects k.log x mine lane.1 (store_goes put program k.task_effects k.log x mine m (g.rank, g.number, g.index, out, bin)) k.follows }; begun = λ c e. absurd (cc) };
+        run = record { task_effects = k.task_effects; run = record { legal = (may_x, k.legal); follows = one_more_follows program may k.task_effects k.log x mine lane.1 (store_goes put program k.task_effects k.log x mine m (g.rank, g.number, g.index, out, bin)) k.follows }; begun = λ c e. absurd (cc) };
       } in (
         w,
         keeps,

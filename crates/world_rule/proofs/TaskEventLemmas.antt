@@ -26,7 +26,7 @@ use Rattle.world_rule.specs.declared.view.OwnPart.{OwnPart}
 use Rattle.world_rule.specs.declared.view.Progress.{Progress}
 use Rattle.world_rule.specs.declared.view.View.{View}
 use Rattle.world_rule.proofs.PendingLemmas.{appended_view, same_effect_true, gone_begins, left_more, settled_drawn, owner_with, stays_borne, bears}
-use Rattle.world_rule.proofs.ViewLemmas.{follows_more, ahead, appends}
+use Rattle.world_rule.proofs.ViewLemmas.{ahead, appends}
 use Rattle.world_rule.proofs.CounterWordLemmas.{count_fits}
 use Rattle.world_rule.proofs.LookLemmas.{owns_next, one_place, that_place}
 use Rattle.world_rule.proofs.AppendLemmas.{Sees, Right, may_come, only_here, says, owing_new, left_new, unclaimed, made_in_hand, undone}
@@ -36,6 +36,7 @@ use Rattle.world_rule.specs.Owing.{settles, is_settled, made_by}
 use Rattle.world_rule.specs.Views.{mark, numbered, own_part, own_events, progress, further, progress_after}
 use Rattle.world_rule.specs.Shows.{DrawnCounts, ProgressShows, ShowsOneRun, drawn_more}
 use Rattle.world_rule.specs.Steps.{IsUnderWay, M, Appends, effect_of, acts, KnowsStored, IsNextEffect}
+use Rattle.event_laws.proofs.GrowingRunLemmas.{one_more_follows}
 
 for_act : (P : Event → Type 0) (e : Event) → acts e ≡ true → ((k to : ℕ) (p : Parcel) → P (Sent k to p)) → ((k : ℕ) (t : TaskName) → P (Submitted k t)) → ((f : Label) → P (Gave f)) → P e
 for_act P (Sent k to p) a s t g = s k to p
@@ -144,7 +145,7 @@ module _ (ranks workers : ℕ) (program : List Doing) (may : Label → List Outl
             told = fit.told;
             own = part_own x.lane x k.log refl ∙ ap (λ es. ev ∷ es) (lane.1 ∙ sym (ap own_events alone));
             changes = appended_view me.0 l ev mine _ _ (ap own_events alone) (ap (progress_after ev) progress ∙ goes_on);
-            run = record { task_effects = k.task_effects; run = record { legal = legal; follows = follows_more program may k.task_effects k.log x mine lane.1 goes k.follows }; begun = λ d e'. let y : further b ≡ d = cc in subst (λ (z : Progress). (p : OwnPart) × Contains ps p × IsUnderWay k.task_effects p.events z) y (own_part l (ev ∷ mine), contains_first (own_part l (ev ∷ mine)) [], record { hand = hands ∙ hand; plan = is.plan; turn = (let a = owns_next b.outlines b.at o here_is in let z = ap (λ (z : Bool). (if z then 1 else 0) + owns (take b.at b.outlines)) own in omega arith) }) };
+            run = record { task_effects = k.task_effects; run = record { legal = legal; follows = one_more_follows program may k.task_effects k.log x mine lane.1 goes k.follows }; begun = λ d e'. let y : further b ≡ d = cc in subst (λ (z : Progress). (p : OwnPart) × Contains ps p × IsUnderWay k.task_effects p.events z) y (own_part l (ev ∷ mine), contains_first (own_part l (ev ∷ mine)) [], record { hand = hands ∙ hand; plan = is.plan; turn = (let a = owns_next b.outlines b.at o here_is in let z = ap (λ (z : Bool). (if z then 1 else 0) + owns (take b.at b.outlines)) own in omega arith) }) };
           },
           refl,
         ),

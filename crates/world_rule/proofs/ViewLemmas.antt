@@ -40,6 +40,7 @@ use Rattle.world_rule.specs.Owing.{settles, is_settled, Made}
 use Rattle.world_rule.specs.Views.{own_part, without, first_of, progress}
 use Rattle.world_rule.specs.CounterWords.{stop_word, WordsShow, StopWordShows}
 use Rattle.world_rule.specs.Shows.{DrawnCounts, IsDrawn, IsMadeOrDrawn, ItsTaskIsInHand, LooksShow, ProgressShows, ViewShows, ShowsOneRun}
+use Rattle.event_laws.proofs.GrowingRunLemmas.{one_more_follows}
 
 -- lists of views
 pub set_view : (P : ℕ → View → Type 0) (views : List View) (id : ℕ) (w : View) → ((j : ℕ) (u : View) → j ≢ id → get_elem? views j ≡ some u → P j u) → P id w → (j : ℕ) (u : View) → get_elem? (set views id w) j ≡ some u → P j u
@@ -209,13 +210,6 @@ module _ (ranks workers : ℕ) (id : ℕ) where
       not_left r n i at is e le (its _ lt) = let k = lt (effect_name r n i) refl in omega arith
       not_left r n i at is e le (ahead f same t _) = let z = drawn_is_one (effect_name r n i) f same in apart (sym is ∙ ap (λ (g : EffectName). b (Counted (Task g.rank g.number))) z ∙ t)
 
--- one more event goes on
-pub follows_more : (program : List Doing) (may : Label → List Outline → Type 0) (task_effects : TaskEffects) (log : List Mark) (x : Mark) (own : List Event) → part x.lane log ≡ own → Goes program task_effects log x own x.event → Follows program may task_effects log → Follows program may task_effects (x ∷ log)
-follows_more program may task_effects log x own is goes f = record {
-  planned = λ r m os e. let p = f.planned r m os e in record { task = p.task; submitted = (p.submitted.0, p.submitted.1, inr p.submitted.2); taken = taken_more (Task r m) x log p.taken; may_do = p.may_do };
-  goes = (subst (λ (es : List Event). Goes program task_effects log x es x.event) (sym is) goes, f.goes);
-}
-
 module _ (ranks workers : ℕ) (program : List Doing) (may : Label → List Outline → Type 0) where
   -- The seat appends the event x. It has that lane alone; the event may come next and follows the application
   pub appends : (s : St) (k : ShowsOneRun ranks workers program may s) (id : ℕ) (v : View) → get_elem? s.views id ≡ some v
@@ -244,7 +238,7 @@ module _ (ranks workers : ℕ) (program : List Doing) (may : Label → List Outl
     drawn = drawn;
     few = k.few;
     legal = (may_x, k.legal);
-    follows = follows_more program may k.task_effects k.log x own lane.1 goes k.follows;
+    follows = one_more_follows program may k.task_effects k.log x own lane.1 goes k.follows;
     short = short;
     words = words;
     stop = subst (λ (z : ℕ). StopWordShows z (set s.views id w)) (sym unstopped) (stops_set (slice_index s.words stop_word) s.views id v w at refl refl k.stop);
