@@ -1,0 +1,24 @@
+use Rattle.std.proofs.Common.{◌≡◌, ◌+◌, ◌++◌, ◌∷◌, [], length, map, ap, sym, ◌∙◌, arith, length-append}
+use Rattle.job_data.specs.Checks.{are_accepted}
+use Rattle.job_data.specs.Data.{data_of}
+use Rattle.haar_app.specs.Operations.{is_within}
+use Rattle.haar_app.proofs.OperationLemmas.{mapped_at, limits_at, few_before, within_more}
+use Rattle.haar_app.proofs.planning.operations_of.Goals as goal
+
+pub loop-index-preserved : goal.loop-index-preserved
+loop-index-preserved c =
+    let xs = c.commands-commands.result.now in
+    let k = c.index-commands-index.result in
+    let i = c.loop-index.index in
+    let is = mapped_at data_of xs i k c.loop-index-test.true c.index-commands-index.is in
+    let all = ap (are_accepted c.args.job.now.depth []) c.commands-commands.ensures ∙ c.depth-depth.ensures.job.commands in
+    let limits = limits_at c.args.job.now.depth (map data_of xs) i (data_of k) all is in
+    let few = few_before c.args.job.now.depth (map data_of xs) i (data_of k) all is in
+    let here = c.operation_of.ensures c.args.job.now.depth limits in
+    let items = c.in_ok-push.ensures.items in
+    let more = ap length items ∙ length-append c.loop-index.operations.items (c.operation_of.result ∷ []) in
+    record {
+      within = within_more c.args.job.now.depth c.loop-index.operations.items c.push.new.self.items c.operation_of.result c.loop-index.invariant.within here items;
+      count = omega (arith, more, c.loop-index.invariant.count);
+      few = omega (arith, more, few, c.loop-index.invariant.count);
+    }

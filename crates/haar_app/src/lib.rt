@@ -1,0 +1,47 @@
+//! The commands of a job on trees, cut into units for a runtime.
+//!
+//! A command goes down the keys of the trees that it reads. The unit of a key reads the entries of its key, puts the
+//! node of the tree that the command writes, and spawns the units of the two children, or gives the value of its
+//! future at once. Where it spawns them, it also spawns a unit that needs what the children give and combines it.
+//! Sums and differences that a unit knows travel in the units that it spawns. [`HaarApp`] has the commands of a job,
+//! for an owner map and a number of ranks.
+//!
+//! The cut is after the recursive tasks of MADNESS' function trees; labels, units and their order are this project's
+//! own.
+#![tactic(auto)]
+
+mod adding;
+mod coarsening;
+mod compressing;
+mod decisions;
+mod effects;
+pub mod examples;
+mod haar_app;
+mod inner_products;
+pub mod laws;
+mod lines;
+mod multiplying;
+mod names;
+mod numbers;
+mod operation;
+mod planning;
+mod printing;
+mod projecting;
+mod readings;
+mod reconstructing;
+mod refining;
+mod results;
+mod sizing;
+mod steps;
+mod texts;
+mod unit;
+mod value;
+mod visits;
+
+pub use app_core::OutOfMemory;
+pub use haar_app::HaarApp;
+pub use lines::Lines;
+pub use operation::Operation;
+pub use results::ResultError;
+pub use unit::{Down, Haar, Held, Side, Sides, Unit, Up};
+pub use value::Value;

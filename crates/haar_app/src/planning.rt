@@ -1,0 +1,143 @@
+//! How an application is made of a job.
+ghost use Rattle.std.specs.Prelude.{◌≡◌, ℕ, ◌≤◌, true, length, IfOk};
+ghost use Rattle.job_data.specs.Checks.{is_within_limits};
+ghost use Rattle.job_data.specs.Data.{data_of};
+ghost use Rattle.haar_app.specs.Operations.{is_within, are_within};
+ghost use Rattle.app_core.specs.Commands.{IsRankCount};
+
+use crate::haar_app::HaarApp;
+use crate::operation::Operation;
+use app_core::OutOfMemory;
+use job_data::{Command, Job, Sources, Step, TreeForm};
+use job_lang::plan;
+use owner_map::OwnerMap;
+use std::alloc::Global;
+
+// The version that a command reads first, or 0.
+fn first_version(reads: Sources) -> u32 {
+    match reads {
+        Sources::Nothing => 0,
+        Sources::One(version) => version,
+        Sources::Two(left, _) => left,
+    }
+}
+
+// The version that a command reads second, or 0.
+fn second_version(reads: Sources) -> u32 {
+    match reads {
+        Sources::Nothing => 0,
+        Sources::One(_) => 0,
+        Sources::Two(_, right) => right,
+    }
+}
+
+// The form in which a version was written.
+fn form_of(commands: &[Command], version: u32) -> TreeForm {
+    let written = match version.checked_sub(1) {
+        Some(before) => commands.get(before as usize),
+        None => None,
+    };
+    match written {
+        Some(command) => command.written_form().unwrap_or(TreeForm::Reconstructed),
+        None => TreeForm::Reconstructed,
+    }
+}
+
+// What a command does, by its step of the plan.
+fn operation_of(commands: &[Command], command: &Command, reads: Sources) -> Operation
+    ensures { (depth : ℕ) → is_within_limits depth (data_of command.now) ≡ true → is_within depth result ≡ true }
+{
+    let first = first_version(reads);
+    let second = second_version(reads);
+    match *command {
+        Command::Project {
+            name: _,
+            function,
+            level,
+            tolerance,
+        } => Operation::Project {
+            function,
+            level,
+            tolerance,
+        },
+        Command::Refine { name: _, level } => Operation::Refine {
+            level,
+            source: first,
+        },
+        Command::Coarsen { .. } => Operation::Coarsen { source: first },
+        Command::Compress { .. } => Operation::Compress { source: first },
+        Command::Reconstruct { .. } => Operation::Reconstruct { source: first },
+        Command::Add {
+            name: _,
+            left_factor,
+            left: _,
+            right_factor,
+            right: _,
+        } => Operation::Add {
+            left_factor,
+            left: first,
+            right_factor,
+            right: second,
+        },
+        Command::Mul { .. } => Operation::Mul {
+            left: first,
+            right: second,
+        },
+        Command::Inner { .. } => Operation::Inner {
+            left: first,
+            right: second,
+        },
+        Command::Print { name } => Operation::Print {
+            source: first,
+            form: form_of(commands, first),
+            name,
+        },
+        Command::Size { .. } => Operation::Size { source: first },
+        Command::Fence => Operation::Fence,
+    }
+}
+
+// The versions that the command at a place reads.
+fn reads_at(steps: &[Step], at: usize) -> Sources {
+    match steps.get(at) {
+        Some(step) => step.reads,
+        None => Sources::Nothing,
+    }
+}
+
+// What each command of a job does.
+fn operations_of(alloc: Global, job: &Job) -> Result<Vec<Operation>, OutOfMemory>
+    ensures within { IfOk result (λ v. are_within job.now.depth v.items ≡ true) }
+    ensures few { IfOk result (λ v. length v.items ≤ 512) }
+{
+    // Called for its clause `job` alone: each command is accepted after those before it.
+    let _depth = job.depth();
+    let plan = plan(alloc, job)?;
+    let steps = plan.steps();
+    let commands = job.commands();
+    let mut operations = Vec::with_capacity(alloc, commands.len())?;
+    for (index, command) in commands.iter().enumerate() {
+        operations.push(operation_of(commands, command, reads_at(steps, index)))?;
+    }
+    Ok(operations)
+}
+
+impl HaarApp {
+    /// The application of a job, for an owner map and a number of ranks.
+    pub fn new(alloc: Global, job: Job, map: OwnerMap, ranks: u32) -> Result<HaarApp, OutOfMemory>
+        requires { IsRankCount ranks }
+        ensures job { IfOk result (λ app. app.job ≡ job) }
+        ensures map { IfOk result (λ app. app.map ≡ map) }
+        ensures ranks { IfOk result (λ app. app.ranks ≡ ranks) }
+    {
+        let operations = operations_of(alloc, &job)?;
+        let depth = job.depth();
+        Ok(HaarApp {
+            job,
+            depth,
+            operations,
+            map,
+            ranks,
+        })
+    }
+}
