@@ -1,0 +1,9 @@
+//! Units of the tree application, driven on one thread, and their results beside those of the serial evaluator.
+#![tactic(auto)]
+
+#[cfg(test)]
+mod driver;
+#[cfg(test)]
+mod orders;
+#[cfg(test)]
+mod tests;
