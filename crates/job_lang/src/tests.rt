@@ -216,7 +216,10 @@ fn plans_commands(rt: HostRuntime) -> Result<(), Fail> {
         fence: 2,
     };
     assert_eq!(rt; steps[14], print);
-    assert_eq!(rt; plan.dropped_at(1), [1, 2, 3, 4, 5, 6, 7, 8, 9, 10, 12].as_slice());
+    assert_eq!(rt;
+        plan.dropped_at(1),
+        [1, 2, 3, 4, 5, 6, 7, 8, 9, 10, 12].as_slice()
+    );
     assert_eq!(rt; plan.dropped_at(2), [13].as_slice());
     assert_eq!(rt; plan.dropped_at(3).len(), 0);
     Ok(())
