@@ -148,6 +148,25 @@ fn forms_of_a_ramp(rt: HostRuntime) -> Result<(), Fail> {
     Ok(())
 }
 
+// A tree that is refined to all cells and coarsened is its root again, and is counted only after a fence.
+#[test]
+fn coarsened_trees_are_counted_after_a_fence(rt: HostRuntime) -> Result<(), Fail> {
+    let head =
+        b"job 1 depth 3\nproject f const 5 level 0 tol 0\nrefine f 3\ncoarsen f\n".as_slice();
+    let cases: [(&[u8], u8, &[u8]); 4] = [
+        (b"fence\nsize f\n", 0, b"size f 1\n"),
+        (b"size f\n", 2, b"fault line 5 F9 size before a fence\n"),
+        (b"print f\n", 0, b"tree f reconstructed\n0 0 40\n"),
+        (b"refine f 1\ncompress f\nfence\nsize f\n", 0, b"size f 3\n"),
+    ];
+    for (commands, status, text) in cases {
+        let outcome = serial_of(rt.alloc(), &[head, commands])?;
+        assert_eq!(rt; outcome.status, status);
+        assert!(rt; outcome.written.as_slice() == text, "after {commands:?}");
+    }
+    Ok(())
+}
+
 #[test]
 fn overflows_and_limits(rt: HostRuntime) -> Result<(), Fail> {
     let cases: [(&[u8], u8, &[u8]); 7] = [
@@ -180,12 +199,12 @@ fn overflows_and_limits(rt: HostRuntime) -> Result<(), Fail> {
         (
             b"job 1 depth 0\ncoarsen f\n",
             2,
-            b"fault line 2 F3 unknown command\n",
+            b"fault line 2 F6 unknown tree\n",
         ),
         (
             b"job 1 depth 0\nsize f\n",
             2,
-            b"fault line 2 F3 unknown command\n",
+            b"fault line 2 F6 unknown tree\n",
         ),
     ];
     for (input, status, text) in cases {
