@@ -20,12 +20,14 @@ pub enum Func {
     Hash(u32, u32),
 }
 
+/// The largest depth.
+pub const MAX_DEPTH: u8 = 16;
+
 /// The largest value of a cell, in absolute value.
-pub(crate) const MAX_VALUE: u64 = 1 << 24;
+pub const MAX_VALUE: u64 = 1 << 24;
 
-const MAX_SLOPE: u64 = 1 << 25;
-
-const MAX_DEPTH: u8 = 16;
+/// The largest difference of two values. A slope is at most that in absolute value, and so is a tolerance.
+pub const MAX_DIFFERENCE: u32 = 1 << 25;
 
 // Whether a number may be the value of a cell.
 fn is_value(number: i64) -> bool
@@ -61,12 +63,12 @@ impl Func {
             Func::Const(constant) => is_value(constant),
             Func::Ramp(start, slope) => {
                 let last = (1u32 << depth) - 1;
-                slope.unsigned_abs() <= MAX_SLOPE
+                slope.unsigned_abs() <= u64::from(MAX_DIFFERENCE)
                     && is_value(start)
                     && is_value(ramp_value(start, slope, last))
             }
-            Func::Step(edge, before, behind) => {
-                edge <= 1 << depth && is_value(before) && is_value(behind)
+            Func::Step(edge, before, after) => {
+                edge <= 1 << depth && is_value(before) && is_value(after)
             }
             Func::Box(start, end, value) => start <= end && end <= 1 << depth && is_value(value),
             // A seed of any 32 bits will do: it is read so that its range is known.
@@ -85,7 +87,7 @@ impl Func {
             Func::Const(constant) => constant,
             Func::Ramp(start, slope) => ramp_value(start, slope, x),
             Func::Step(edge, before, _) if x < edge => before,
-            Func::Step(_, _, behind) => behind,
+            Func::Step(_, _, after) => after,
             Func::Box(start, end, value) if start <= x && x < end => value,
             Func::Box(..) => 0,
             Func::Hash(seed, modulus) => (mix(seed, x) % u64::from(modulus)) as i64,
@@ -141,7 +143,7 @@ mod tests {
             (Func::Ramp(0, 2 * LIMIT + 1), 0, false),
             (Func::Ramp(0, -2 * LIMIT), 0, true),
             (Func::Ramp(0, -2 * LIMIT - 1), 0, false),
-            // A step may stand before the first cell, or after the last.
+            // A step may be before the first cell, or after the last.
             (Func::Step(0, 1, 2), 0, true),
             (Func::Step(1, LIMIT, -LIMIT), 0, true),
             (Func::Step(2, 1, 2), 0, false),

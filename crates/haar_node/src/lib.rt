@@ -14,5 +14,5 @@ mod mix;
 mod node;
 
 pub use combine::{Over, combine_add, combine_inner, combine_mul, finish_inner, join, split};
-pub use func::Func;
+pub use func::{Func, MAX_DEPTH, MAX_DIFFERENCE, MAX_VALUE};
 pub use node::{Coefficient, Node};

@@ -5,6 +5,7 @@ ghost use Rattle.job_data.specs.Data.{data_of};
 
 use crate::command::Command;
 use crate::history::History;
+use haar_node::MAX_DEPTH;
 use std::marker::Model;
 
 /// A job: its depth, from 0 to 16, and its commands, each accepted after those before it.
@@ -26,9 +27,6 @@ impl Model for Job {
 
     ghost invariant = { λ j. IsJob (record { depth = j.depth; commands = map data_of j.commands.items }) };
 }
-
-/// The largest depth.
-pub const MAX_DEPTH: u8 = 16;
 
 // Whether each of the commands is accepted after those before it.
 fn are_accepted(depth: u8, commands: &[Command]) -> bool

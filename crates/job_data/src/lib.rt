@@ -28,7 +28,7 @@ pub use command::Command;
 pub use drops::Drops;
 pub use fault_kind::FaultKind;
 pub use history::History;
-pub use job::{Job, MAX_DEPTH};
+pub use job::Job;
 pub use reads::Reads;
 pub use signature::{Numbers, Signature, Target};
 pub use sources::Sources;

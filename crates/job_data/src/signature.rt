@@ -8,7 +8,7 @@ ghost use Rattle.tree_model.specs.Signatures.{are_within, fencing, is_factor, re
 
 use crate::reads::Reads;
 use crate::tree_form::TreeForm;
-use haar_node::Func;
+use haar_node::{Func, MAX_DIFFERENCE};
 use job_words::Name;
 
 /// The name of a tree, and the form that it is written in.
@@ -52,8 +52,6 @@ pub struct Signature {
     pub needs_fence: bool,
 }
 
-const MAX_TOLERANCE: u32 = 1 << 25;
-
 const MAX_FACTOR: u64 = 1 << 20;
 
 // Whether a number may be a factor of a sum.
@@ -76,7 +74,7 @@ impl Numbers {
                 function,
                 level,
                 tolerance,
-            } => function.fits(depth) && level <= depth && tolerance <= MAX_TOLERANCE,
+            } => function.fits(depth) && level <= depth && tolerance <= MAX_DIFFERENCE,
             Numbers::Level(level) => level <= depth,
             Numbers::Factors(left, right) => is_factor(left) && is_factor(right),
         }

@@ -10,7 +10,7 @@ use crate::fields::{
 };
 use crate::function_form::FunctionForm;
 use crate::verb::Verb;
-use job_data::MAX_DEPTH;
+use haar_node::MAX_DEPTH;
 use job_words::Name;
 
 /// A line of a job as its words say it, with any numbers.
