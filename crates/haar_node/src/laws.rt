@@ -17,7 +17,7 @@ pub fn leaves_have_one_value()
 {}
 
 /// Where a key has children in both trees, the differences there and below add the product of the two differences and
-/// twice what its children add, as [`combine_inner`](crate::combine_inner) answers. At each other key they add nothing.
+/// twice what its children add, as [`combine_inner`](crate::combine_inner) returns. At each other key they add nothing.
 pub fn inner_parts_follow()
     ensures { InnerPartsFollowKeys }
 {}

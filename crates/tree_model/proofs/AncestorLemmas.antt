@@ -15,7 +15,7 @@ ancestor_self k =
     let same : k.at / 2 ^ (k.level - k.level) ≡ k.at = rw none (omega arith) in
     same_key (ancestor k k.level) k refl same
 
--- over a cell of a key's box stand the keys over the key
+-- the keys over a cell of a key's box are the keys over the key
 pub key_over_ancestor : (depth : ℕ) (k : Key) (cell level : ℕ) → k.level ≤ depth → level ≤ k.level → InBox depth k cell → key_over depth level cell ≡ ancestor k level
 key_over_ancestor depth k cell level deep le inside =
     let above = (boxes_nest depth (ancestor k level) k (omega arith) deep).0 (record { level = le; over = refl }) cell inside in

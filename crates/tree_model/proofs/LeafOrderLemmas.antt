@@ -15,7 +15,7 @@ pub insert_entry_last : {X : Type 0} (es : List (Key × X)) (k : Key) (x : X) �
 insert_entry_last [] k x above = refl
 insert_entry_last (e ∷ es) k x above = rw above.0 (ap (λ rest. e ∷ rest) (insert_entry_last es k x above.1))
 
--- each key stands before those of greater places
+-- each key is before those of greater places
 abbrev pub IsRising : List Key → Type 0
 IsRising [] = Unit {0}
 IsRising (k ∷ ks) = AllByRecursion (λ other. k.at < other.at) ks × IsRising ks

@@ -23,7 +23,7 @@ list_all_range_more p n = rw (range_more 0 n, list_all-append, zero-add) (ap (λ
     and_true true = refl
     and_true false = refl
 
--- the front of a range fits
+-- a range without its first numbers
 drop_range : (a m n : ℕ) → drop m (range_with_len a (m + n)) ≡ range_with_len (a + m) n
 drop_range a m n =
     let seam = drop-append_seam (range_with_len a m) (range_with_len (a + m) n) in

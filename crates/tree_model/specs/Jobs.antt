@@ -2,7 +2,7 @@
 use Rattle.std.specs.Prelude.{ℕ, ◌+◌, ◌-◌, List, [], ◌∷◌, ◌++◌, take, Option, Some, None, if◌then◌else◌}
 use Rattle.std.specs.Option.{option_map_or}
 use Rattle.tree_model.specs.Commands.{Command}
-use Rattle.tree_model.specs.Commands.Command.{Project, Refine, Coarsen, Compress, Reconstruct, Add, Mul, Inner, Print, Size, Fence}
+use Rattle.tree_model.specs.Commands.Command.{Inner, Print, Size}
 use Rattle.tree_model.specs.Nodes.Form.{Compressed}
 use Rattle.tree_model.specs.OperationTexts.{printed_lines, inner_line, size_line, overflow_line}
 use Rattle.tree_model.specs.Versions.{Versions, no_versions, read_two, after, command_overflows}
@@ -12,19 +12,12 @@ pub record JobData : Type 0 where
   pub depth : ℕ
   pub commands : List Command
 
--- the lines of a command, by what the names stand for before it
+-- the lines of a command, by what the names stand for before it; most commands have none
 abbrev pub command_lines : Versions → Command → List ℕ
-command_lines versions (Project name projection) = []
-command_lines versions (Refine name level) = []
-command_lines versions (Coarsen name) = []
-command_lines versions (Compress name) = []
-command_lines versions (Reconstruct name) = []
-command_lines versions (Add name left_factor left right_factor right) = []
-command_lines versions (Mul name left right) = []
 command_lines versions (Inner left right) = option_map_or (λ p. inner_line left p.0 right p.1) (read_two versions Compressed left right) []
 command_lines versions (Print name) = option_map_or (λ version. printed_lines version.form name version.tree) (versions name) []
 command_lines versions (Size name) = option_map_or (λ version. size_line name version.tree) (versions name) []
-command_lines versions Fence = []
+command_lines versions _ = []
 
 -- the lines of these commands, one after another, by what the names stand for before the first
 abbrev pub lines_from : ℕ → Versions → List Command → List ℕ

@@ -10,7 +10,7 @@ pub data Form : Type 0 where
   Reconstructed : Form
   Compressed : Form
 
--- what is kept at a key. `Bad` is no tree's: it stands where a command overflowed
+-- what is kept at a key. `Bad` is no tree's: it is where a command overflowed
 pub data Node : Type 0 where
   Leaf : (sum : ℤ) → Node
   Branch : Node

@@ -8,7 +8,7 @@ use Rattle.tree_model.specs.Functions.{Function, value_at}
 use Rattle.tree_model.specs.Shapes.{is_key_of, is_leaf}
 use Rattle.tree_model.specs.Trees.{Tree}
 
--- the function, the level down to which all is split, and the difference that is let stand
+-- the function, the level down to which all is split, and the largest difference that is left unsplit
 pub record Projection : Type 0 where
   pub function : Function
   pub level : ℕ

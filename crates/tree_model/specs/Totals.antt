@@ -5,7 +5,7 @@ use Rattle.std.specs.Prelude.{ℕ, ◌+◌, ◌-◌, ◌*◌, ◌==◌, Bool, fa
 use Rattle.std.specs.Option.{option_map, option_map_or}
 use Rattle.tree_key.specs.Keys.{Key, parent}
 use Rattle.tree_model.specs.Commands.{Command}
-use Rattle.tree_model.specs.Commands.Command.{Project, Refine, Coarsen, Compress, Reconstruct, Add, Mul, Inner, Print, Size, Fence}
+use Rattle.tree_model.specs.Commands.Command.{Project, Refine, Coarsen, Compress, Reconstruct, Add, Mul, Inner, Print, Size}
 use Rattle.tree_model.specs.Jobs.{JobData}
 use Rattle.tree_model.specs.Nodes.Form.{Reconstructed, Compressed}
 use Rattle.tree_model.specs.Operations.{refined, coarsened, union}
@@ -52,8 +52,7 @@ visits_of depth versions (Add name left_factor left right_factor right) = option
 visits_of depth versions (Mul name left right) = option_map (λ p. over (union p.0.shape p.1.shape)) (read_two versions Reconstructed left right)
 visits_of depth versions (Inner left right) = option_map (λ p. over (intersection p.0.shape p.1.shape)) (read_two versions Compressed left right)
 visits_of depth versions (Print name) = option_map (λ version. over version.tree.shape) (versions name)
-visits_of depth versions (Size name) = None
-visits_of depth versions Fence = None
+visits_of depth versions _ = None
 
 -- a number of messages and a number of tasks
 pub record Total : Type 0 where

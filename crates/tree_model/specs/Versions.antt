@@ -3,7 +3,7 @@ use Rattle.std.specs.Prelude.{ℕ, Bool, true, false, List, Option, Some, None, 
 use Rattle.std.specs.Option.{option_map, option_map_or}
 use Rattle.tree_model.specs.Commands.{Command}
 use Rattle.tree_model.specs.Signatures.{writes}
-use Rattle.tree_model.specs.Commands.Command.{Project, Refine, Coarsen, Compress, Reconstruct, Add, Mul, Inner, Print, Size, Fence}
+use Rattle.tree_model.specs.Commands.Command.{Project, Refine, Coarsen, Compress, Reconstruct, Add, Mul}
 use Rattle.tree_model.specs.Nodes.{Form}
 use Rattle.tree_model.specs.Nodes.Form.{Reconstructed, Compressed}
 use Rattle.tree_model.specs.Operations.{refined, coarsened, weighted_sum, product, overflows}
@@ -55,10 +55,7 @@ written depth versions (Reconstruct name) = option_map (λ t. record { form = Re
 written depth versions (Add name left_factor left right_factor right) =
     option_map (λ p. record { form = Compressed; tree = weighted_sum left_factor p.0 right_factor p.1 }) (read_two versions Compressed left right)
 written depth versions (Mul name left right) = option_map (λ p. record { form = Reconstructed; tree = product p.0 p.1 }) (read_two versions Reconstructed left right)
-written depth versions (Inner left right) = None
-written depth versions (Print name) = None
-written depth versions (Size name) = None
-written depth versions Fence = None
+written depth versions _ = None
 
 -- the newer version, where there is one, and else the one before
 abbrev pub newer : Option Version → Option Version → Option Version

@@ -163,7 +163,7 @@ fn ramp_within_tolerance()
         ≡ codes "tree f reconstructed\n0 0 0\n" }
 {}
 
-/// In the compressed form the sum stands in the first line, and each key with children has its difference.
+/// In the compressed form the sum is in the first line, and each key with children has its difference.
 fn ramp_compressed()
     ensures { job_text (record { depth = 2; commands = Project (codes "f") (record { function = Ramp (pos 0) (pos 1); level = 0; tolerance = 0 }) ∷ Compress (codes "f") ∷ Print (codes "f") ∷ [] })
         ≡ codes "tree f compressed 6\n0 0 -4\n1 0 -1\n1 1 -1\n" }

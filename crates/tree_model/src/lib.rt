@@ -1,6 +1,6 @@
 //! The model of the job language: functions on cells, shapes, trees, commands, and the texts that they mean.
 //!
-//! The definitions stand in `specs/`; this crate's functions are laws about them, each a contract with an empty body.
+//! The definitions are in `specs/`; this crate's functions are laws about them, each a contract with an empty body.
 #![tactic(auto)]
 
 mod coarsening;

@@ -47,7 +47,7 @@ fn two_shapes()
         ≡ codes "fence 1 messages 2 tasks 5\ninner f f 50\nfence 2 messages 4 tasks 11\ninner f g 5\ninner g f 5\nfence 3 messages 8 tasks 21\nend messages 8 tasks 21\n" }
 {}
 
-/// The lines of the commands before the one that overflows stand, and there is no line of the end.
+/// The lines of the commands before the one that overflows are printed, and there is no line of the end.
 fn receipts_before_an_overflow()
     ensures { text_of (record { ranks = 1; owner = λ k. 0 }) true
         (record { depth = 0; commands = Project (codes "f") (record { function = Const (pos 16777216); level = 0; tolerance = 0 }) ∷ Fence ∷ Fence ∷ Mul (codes "f") (codes "f") (codes "f") ∷ Fence ∷ [] })
