@@ -46,7 +46,7 @@ return_at_end l false is = ([], inl refl, sym (append-nil l))
 return_at_end [] true is = cc
 return_at_end (x ∷ l) true is = (13 ∷ [], inr refl, last_byte (x ∷ l) 13 (omega arith) (eqb-true _ 13 is))
 
--- the line feed at a place, between what stands before it and after it
+-- the line feed at a place, between what is before it and after it
 feed_at : (text : List ℕ) (at : ℕ) → position newline text ≡ Some at → text ≡ take at text ++ 10 ∷ drop (at + 1) text
 feed_at text at is =
     let found = position-Some newline text at 0 is in

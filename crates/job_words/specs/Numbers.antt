@@ -1,4 +1,4 @@
--- Numbers of a job's text: a minus that may stand first, and 1 to 18 decimal digits.
+-- Numbers of a job's text: an optional minus, and 1 to 18 decimal digits.
 use Rattle.std.specs.Prelude.{ℕ, ◌==◌, ◌&&◌, nat_lt, nat_le, Bool, List, [], ◌∷◌, length, Option, Some, None, ℤ, pos, neg_ℤ, if◌then◌else◌}
 use Rattle.std.specs.List.{list_all}
 use Rattle.std.specs.Option.{option_map}

@@ -3,7 +3,7 @@ ghost use Rattle.std.specs.Prelude.{◌≡◌, ◌∷◌, [], true, false, Some,
 ghost use Rattle.job_words.specs.Names.{is_name};
 ghost use Rattle.job_words.specs.Numbers.{number};
 
-/// A number has 1 to 18 digits, and one minus may stand before them.
+/// A number has 1 to 18 digits, and one minus may come before them.
 pub fn whole_numbers()
     ensures zero { number (codes "-0") ≡ Some (pos 0) }
     ensures leading_zeros { number (codes "007") ≡ Some (pos 7) }

@@ -16,14 +16,14 @@ fn strip_return(line: &[u8]) -> &[u8]
     }
 }
 
-// Where the first line feed stands.
+// The index of the first line feed.
 fn line_feed(text: &[u8]) -> Option<usize>
     ensures { result ≡ position (λ byte. byte == 10) text.now }
 {
     text.iter().position(|byte| *byte == b'\n')
 }
 
-/// The first line of a text, and the text after it. None exactly where the text is empty. Between the two stands the end
+/// The first line of a text, and the text after it. None exactly where the text is empty. Between the two is the end
 /// of the line alone: a line feed and at most one carriage return, or nothing after the last line.
 pub fn next_line(text: &[u8]) -> Option<(&[u8], &[u8])>
     ensures first { MatchOption result (lines text.now ≡ []) (λ r. lines text.now ≡ r.0.now ∷ lines r.1.now) }

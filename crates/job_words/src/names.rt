@@ -6,7 +6,7 @@ ghost use Rattle.job_words.specs.Names.{is_letter, is_name_byte, is_name, is_zer
 
 const MAX_NAME_LEN: usize = 16;
 
-// Whether a byte may stand in a name.
+// Whether a byte may be in a name.
 fn is_name_byte(byte: u8) -> bool
     ensures { result ≡ is_name_byte byte }
 {
@@ -23,7 +23,7 @@ fn begins_name(word: &[u8]) -> bool
     }
 }
 
-// Whether each byte may stand in a name.
+// Whether each byte may be in a name.
 fn has_name_bytes(word: &[u8]) -> bool
     ensures { result ≡ list_all is_name_byte word.now }
 {
@@ -47,7 +47,7 @@ fn padded(word: &[u8]) -> [u8; MAX_NAME_LEN]
     padded
 }
 
-// Where the first zero stands.
+// The index of the first zero.
 fn first_zero(padded: &[u8]) -> Option<usize>
     ensures { result ≡ position is_zero padded.now }
 {

@@ -31,7 +31,7 @@ fn with_sign(is_negative: bool, size: u64) -> i64
     if is_negative { -number } else { number }
 }
 
-/// The number that a word writes: a minus that may stand first, and 1 to 18 digits. None exactly where the word isn't
+/// The number that a word writes: an optional minus, and 1 to 18 digits. None exactly where the word isn't
 /// that.
 pub fn number_of(word: &[u8]) -> Option<i64>
     ensures { result ≡ number word.now }
