@@ -9,16 +9,11 @@ use Rattle.std.proofs.lemmas.Grind.{get_or-set_at}
 use Rattle.std.proofs.lemmas.List.{get_or_read, get_or-set_other, length-take-le}
 use Rattle.std.proofs.lemmas.List.Elements.{filter-append}
 use Rattle.std.proofs.lemmas.List.Folds.{list_all-append, list_any-append}
+use Rattle.tree_model.proofs.ConstantBoxLemmas.{same_tests}
 use Rattle.tree_model.proofs.RangeLemmas.{range_more}
 use Rattle.job_data.specs.declared.step.Step.{Step}
 use Rattle.job_data.specs.Drops.{writes_version, reads_version, is_before, is_done, IsNumbered, AreNumbered}
 use Rattle.job_data.specs.Uses.{use_after, last_use}
-
--- two tests of which each passes where the other does
-same_tests : (a b : Bool) → (a ≡ true → b ≡ true) → (b ≡ true → a ≡ true) → a ≡ b
-same_tests true b to from = sym (to refl)
-same_tests false true to from = from refl
-same_tests false false to from = refl
 
 -- whether a command writes or reads a version
 abbrev uses : ℕ → Step → Bool

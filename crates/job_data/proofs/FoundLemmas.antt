@@ -18,6 +18,6 @@ pub all_suit : (needed : Option Form) (before : List Command) (names : List (Lis
 all_suit needed before [] = refl
 all_suit needed before (name ∷ names) = ap (λ b. suits needed (form_behind before name) && b) (all_suit needed before names)
 
--- the checks with equal answers
+-- the checks with equal results
 pub same_checks : (c : Command) (a b t f n s a' b' t' f' n' s' : Bool) → a ≡ a' → b ≡ b' → t ≡ t' → f ≡ f' → n ≡ n' → s ≡ s' → checked BeyondLimits (a && b) (checked UnknownTree t (checked WrongForm f (checked FarFromFence n (checked SizeBeforeFence s (Ok c))))) ≡ checked BeyondLimits (a' && b') (checked UnknownTree t' (checked WrongForm f' (checked FarFromFence n' (checked SizeBeforeFence s' (Ok c)))))
 same_checks c a b t f n s a' b' t' f' n' s' within room there suit near fence = rw (within, room, there, suit, near, fence) refl

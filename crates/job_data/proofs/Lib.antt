@@ -8,3 +8,4 @@ pub mod MeaningLemmas
 pub mod CommandLemmas
 pub mod FoundLemmas
 pub mod FaultLemmas
+pub mod AcceptedLemmas

@@ -74,11 +74,11 @@ with_true cs ws n w last is = rw is refl
 with_false : (cs : List Command) (ws n : List ℕ) (w last : ℕ) → writes n (command_at cs w) ≡ false → with_writer cs (w ∷ ws) n last ≡ w ∷ with_writer cs ws n last
 with_false cs ws n w last is = rw is refl
 
--- what is told after one more command that writes
+-- what is read after one more command that writes
 abbrev told_after : {A : Type 0} → (ℕ → Command → A) → A → List Command → List ℕ → List ℕ → Command → A
 told_after tell none cs ws name c = if writes name c then tell (length cs) c else told_at tell none cs ws name
 
--- the writer of the name stands at the first place
+-- the writer of the name is at the first place
 replaced : {A : Type 0} (tell : ℕ → Command → A) (none : A) (cs : List Command) (ws n : List ℕ) (c : Command) (name : List ℕ) (w : ℕ) → All (λ w. w < length cs) (w ∷ ws) → writes n c ≡ true → writes n (command_at cs w) ≡ true → told_at tell none (cs ++ c ∷ []) (with_writer cs (w ∷ ws) n (length cs)) name ≡ told_after tell none cs (w ∷ ws) name c
 replaced tell none cs ws n c name w all is here =
     ap (λ places. told_at tell none (cs ++ c ∷ []) places name) (with_true cs ws n w (length cs) here)

@@ -69,7 +69,7 @@ brings before s = option_map_or (λ target. not (is_written before target.name))
 abbrev pub brings_tree : List Command → Command → Bool
 brings_tree before c = brings before (signature_of c)
 
--- how many trees these commands bring, after those before them
+-- how many trees these commands write that none before them wrote
 abbrev pub trees_behind : List Command → List Command → ℕ
 trees_behind before [] = 0
 trees_behind before (c ∷ cs) = (if brings_tree before c then 1 else 0) + trees_behind (before ++ c ∷ []) cs
@@ -78,7 +78,7 @@ trees_behind before (c ∷ cs) = (if brings_tree before c then 1 else 0) + trees
 abbrev pub since_fence : List Command → ℕ
 since_fence commands = fold (λ count command. if is_fence command then 0 else count + 1) 0 commands
 
--- whether a job has room for one more command: it isn't the 513th, brings no 17th tree, and isn't the 65th `print`
+-- whether a job has room for one more command: it isn't the 513th, writes no 17th tree, and isn't the 65th `print`
 abbrev pub has_room_for : List Command → Signature → Bool
 has_room_for before s =
     nat_lt (length before) max_commands
@@ -100,7 +100,7 @@ suits (Some needed) form = option_map_or (same_form needed) form false
 abbrev pub has_forms : List Command → Command → Bool
 has_forms before c = list_all (λ name. suits (needed_form c) (form_behind before name)) (names_read c)
 
--- whether a command is a fence, or fewer than 32 others stand between the last fence and it
+-- whether a command is a fence, or fewer than 32 others are between the last fence and it
 abbrev pub is_near_fence : List Command → Command → Bool
 is_near_fence before c = is_fence c || nat_lt (since_fence before) max_commands_before_fence
 
@@ -118,7 +118,7 @@ has_fence_for before s = not s.needs_fence || list_all (is_fenced before) s.read
 abbrev pub has_fence : List Command → Command → Bool
 has_fence before c = has_fence_for before (signature_of c)
 
--- whether a command may stand after the commands before it
+-- whether a command may come after the commands before it
 abbrev pub may_follow : List Command → Command → Bool
 may_follow before c = has_room before c && (has_trees before c && (has_forms before c && (is_near_fence before c && has_fence before c)))
 

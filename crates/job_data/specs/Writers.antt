@@ -11,7 +11,7 @@ use Rattle.job_data.specs.Versions.{version_behind}
 abbrev pub command_at : List Command → ℕ → Command
 command_at commands place = get_or commands place Fence
 
--- what is told of the first of these places that writes a name, and of its command
+-- what is read off the first of these places that writes a name, and its command
 abbrev pub told_at : {A : Type 0} → (ℕ → Command → A) → A → List Command → List ℕ → List ℕ → A
 told_at tell none commands [] name = none
 told_at tell none commands (place ∷ places) name = if writes name (command_at commands place) then tell place (command_at commands place) else told_at tell none commands places name

@@ -84,42 +84,18 @@ impl Command {
                 function,
                 level,
                 tolerance,
-            } => {
-                let numbers = Numbers::Projection {
-                    function,
-                    level,
-                    tolerance,
-                };
-                Signature::writing(name, reconstructed, Reads::Nothing, None, numbers)
-            }
+            } => Signature::projecting(name, function, level, tolerance),
             Command::Refine { name, level } => {
-                let numbers = Numbers::Level(level);
-                let needs = Some(reconstructed);
-                Signature::writing(name, reconstructed, Reads::One(name), needs, numbers)
+                Signature::changing(name, reconstructed, reconstructed, Numbers::Level(level))
             }
             Command::Coarsen { name } => {
-                let needs = Some(reconstructed);
-                Signature::writing(
-                    name,
-                    reconstructed,
-                    Reads::One(name),
-                    needs,
-                    Numbers::Nothing,
-                )
+                Signature::changing(name, reconstructed, reconstructed, Numbers::Nothing)
             }
             Command::Compress { name } => {
-                let needs = Some(reconstructed);
-                Signature::writing(name, compressed, Reads::One(name), needs, Numbers::Nothing)
+                Signature::changing(name, reconstructed, compressed, Numbers::Nothing)
             }
             Command::Reconstruct { name } => {
-                let needs = Some(compressed);
-                Signature::writing(
-                    name,
-                    reconstructed,
-                    Reads::One(name),
-                    needs,
-                    Numbers::Nothing,
-                )
+                Signature::changing(name, compressed, reconstructed, Numbers::Nothing)
             }
             Command::Add {
                 name,
@@ -128,13 +104,11 @@ impl Command {
                 right_factor,
                 right,
             } => {
-                let (reads, needs) = (Reads::Two(left, right), Some(compressed));
                 let numbers = Numbers::Factors(left_factor, right_factor);
-                Signature::writing(name, compressed, reads, needs, numbers)
+                Signature::combining(name, compressed, left, right, numbers)
             }
             Command::Mul { name, left, right } => {
-                let (reads, needs) = (Reads::Two(left, right), Some(reconstructed));
-                Signature::writing(name, reconstructed, reads, needs, Numbers::Nothing)
+                Signature::combining(name, reconstructed, left, right, Numbers::Nothing)
             }
             Command::Inner { left, right } => {
                 Signature::reading(Reads::Two(left, right), Some(compressed), false, false)

@@ -18,7 +18,7 @@ pub enum FaultKind {
     UnknownTree,
     /// F7: a tree that is read isn't in the form that the command needs.
     WrongForm,
-    /// F8: more than 32 commands stand before a fence.
+    /// F8: more than 32 commands are before a fence.
     FarFromFence,
     /// F9: a tree is counted, and no fence comes after the command that last wrote it.
     SizeBeforeFence,

@@ -225,7 +225,7 @@ impl History {
         lowest_fault(is_within, has_room, are_there, suit, is_near, has_fence)
     }
 
-    /// Whether a command is within its limits at a depth, and may stand after the commands.
+    /// Whether a command is within its limits at a depth, and may come after the commands.
     pub fn is_accepted(&self, depth: u8, before: &[Command], command: &Command) -> bool
         requires { Recalls (map data_of before.now) self.now }
         ensures { result ≡ is_accepted depth (map data_of before.now) (data_of command.now) }
@@ -274,7 +274,7 @@ impl History {
         self.step_for(before, &signature)
     }
 
-    // Takes note of the writer of a tree, which is to stand after the commands.
+    // Takes note of the writer of a tree, which comes after the commands.
     fn add_writer(&mut self, before: &[Command], command: &Command)
         requires recalls { Recalls (map data_of before.now) self.old }
         requires room { has_room (map data_of before.now) (data_of command.now) ≡ true }
@@ -299,7 +299,7 @@ impl History {
         }
     }
 
-    /// The history with one command more, which may stand after the others.
+    /// The history with one command more, which may come after the others.
     pub fn add(&mut self, before: &[Command], command: &Command)
         requires recalls { Recalls (map data_of before.now) self.old }
         requires follows { may_follow (map data_of before.now) (data_of command.now) ≡ true }
@@ -312,7 +312,7 @@ impl History {
         self.fences = fences_with(self.fences, signature.fences);
     }
 
-    /// How many trees the commands bring.
+    /// How many trees the commands write.
     pub fn trees(&self, before: &[Command]) -> u32
         requires { Recalls (map data_of before.now) self.now }
         ensures { result ≡ trees_behind [] (map data_of before.now) }

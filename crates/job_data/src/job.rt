@@ -44,7 +44,7 @@ fn are_accepted(depth: u8, commands: &[Command]) -> bool
     true
 }
 
-// How many trees these commands bring, each of which is accepted after those before it.
+// How many trees these commands write, each of which is accepted after those before it.
 fn trees_of(commands: &[Command]) -> u32
     requires { (depth : ℕ) × (are_accepted depth [] (map data_of commands.now) ≡ true) }
     ensures { result ≡ trees_behind [] (map data_of commands.now) }

@@ -1,9 +1,9 @@
 //! Jobs as data: a depth and commands, each of which passes the checks after those before it.
 //!
 //! [`Command::signature`] says what a command writes and reads, and which of its numbers have limits. The checks follow from
-//! that: [`History`] has of the commands before one what its check needs, and answers the lowest kind of fault that the
+//! that: [`History`] has of the commands before one what its check needs, and returns the lowest kind of fault that the
 //! command has after them. [`Job::of_commands`] makes a job of a depth and commands that pass. How a job is written and
-//! read stands in `job_lang`.
+//! read is in `job_lang`.
 #![tactic(auto)]
 
 mod command;

@@ -1,9 +1,11 @@
 //! What a command writes, reads and does besides. The checks of a job and its plan follow from it.
-ghost use Rattle.std.specs.Prelude.{◌≡◌};
+ghost use Rattle.std.specs.Prelude.{◌≡◌, [], ◌∷◌, Some, None};
 ghost use Rattle.std.specs.Option.{option_map};
 ghost use Rattle.job_words.specs.NameBytes.{bytes_of};
 ghost use Rattle.job_data.specs.Data.{form_of};
 ghost use Rattle.job_data.specs.Reads.{names_of};
+ghost use Rattle.tree_model.specs.Nodes.Form.{Reconstructed};
+ghost use Rattle.job_data.specs.declared.signature.Numbers.TheVariants.{Projection};
 ghost use Rattle.tree_model.specs.Signatures.{are_within, fencing, is_factor, reading, writing};
 
 use crate::reads::Reads;
@@ -104,6 +106,41 @@ impl Signature {
             fences: false,
             needs_fence: false,
         }
+    }
+
+    /// Of a projection.
+    pub fn projecting(name: Name, function: Func, level: u8, tolerance: u32) -> Signature
+        ensures { signature_data result
+            ≡ writing (bytes_of name) Reconstructed [] None (numbers_of (Projection function level tolerance)) }
+    {
+        let numbers = Numbers::Projection {
+            function,
+            level,
+            tolerance,
+        };
+        Signature::writing(name, TreeForm::Reconstructed, Reads::Nothing, None, numbers)
+    }
+
+    /// Of a command that writes a tree in place of one in another form, or of another shape.
+    pub fn changing(name: Name, from: TreeForm, to: TreeForm, numbers: Numbers) -> Signature
+        ensures { signature_data result
+            ≡ writing (bytes_of name) (form_of to) (bytes_of name ∷ []) (Some (form_of from)) (numbers_of numbers) }
+    {
+        Signature::writing(name, to, Reads::One(name), Some(from), numbers)
+    }
+
+    /// Of a command that makes a tree of two others, all in one form.
+    pub fn combining(
+        name: Name,
+        form: TreeForm,
+        left: Name,
+        right: Name,
+        numbers: Numbers,
+    ) -> Signature
+        ensures { signature_data result
+            ≡ writing (bytes_of name) (form_of form) (bytes_of left ∷ bytes_of right ∷ []) (Some (form_of form)) (numbers_of numbers) }
+    {
+        Signature::writing(name, form, Reads::Two(left, right), Some(form), numbers)
     }
 
     /// Of a command that only reads.

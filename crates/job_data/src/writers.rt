@@ -54,7 +54,7 @@ pub fn version_at(commands: &[Command], places: &[usize], name: &[u8]) -> usize
     0
 }
 
-/// Where the first of these places stands that writes a name.
+/// The index of the first of these places that writes a name.
 pub fn writer_of(commands: &[Command], places: &[usize], name: &[u8]) -> Option<usize>
     ensures { result ≡ position
         (λ place. writes name.now (command_at (map data_of commands.now) place)) places.now }

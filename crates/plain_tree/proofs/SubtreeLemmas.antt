@@ -4,14 +4,9 @@ use Rattle.std.proofs.lemmas.Bool.{and_parts, and_from, or_cases, or_left, or_ri
 use Rattle.tree_key.specs.Keys.{Key, child}
 use Rattle.tree_key.proofs.BoxLemmas.{same_key as key_from_parts}
 use Rattle.tree_key.proofs.PowerLemmas.{quotient_in_steps}
+use Rattle.tree_model.proofs.ConstantBoxLemmas.{same_tests}
 use Rattle.plain_tree.specs.Numbers.{same_key}
 use Rattle.plain_tree.specs.Filling.{under}
-
--- two tests of which each passes where the other does
-pub same_tests : (a b : Bool) → (a ≡ true → b ≡ true) → (b ≡ true → a ≡ true) → a ≡ b
-same_tests true b to from = sym (to refl)
-same_tests false true to from = from refl
-same_tests false false to from = refl
 
 -- what a test of keys says
 pub same_key_holds : (a b : Key) → same_key a b ≡ true → a ≡ b
