@@ -15,7 +15,7 @@ use Rattle.job_lang.specs.declared.function_form.FunctionForm.{FunctionForm}
 use Rattle.job_lang.specs.declared.function_form.FunctionForm.TheVariants.{Const, Ramp, Step, Box, Hash}
 use Rattle.job_data.specs.Checks.{has_numbers, has_room, has_trees, has_forms, is_near_fence, has_fence}
 use Rattle.job_lang.specs.Grammar.{◌>>=◌, Form, size_of, command_of_form, function_of_form}
-use Rattle.job_lang.specs.Grammar.Form.{ProjectForm, RefineForm, CoarsenForm, CompressForm, ReconstructForm, AddForm, MulForm, InnerForm, PrintForm, SizeForm, FenceForm}
+use Rattle.job_lang.specs.Grammar.Form.{ProjectForm, RefineForm, CommandForm}
 use Rattle.job_lang.specs.Limits.{size_up_to, max_8_bits, max_32_bits, small_function, small_command}
 use Rattle.job_data.specs.CheckedCommands.{checked, checked_command}
 use Rattle.job_lang.specs.Reading.{read}
@@ -215,15 +215,7 @@ small_limited depth shallow (RefineForm name level) =
     mapped (RefineCommand name) (size_of level) (keep depth)
     ∙ sym (sized max_8_bits level (λ n. keep depth (RefineCommand name n)) (λ n large. ap (λ b. some_if b (RefineCommand name n)) (level_large depth n shallow large)))
     ∙ sym (mapped (RefineCommand name) (size_up_to max_8_bits level) (keep depth))
-small_limited depth shallow (CoarsenForm name) = refl
-small_limited depth shallow (CompressForm name) = refl
-small_limited depth shallow (ReconstructForm name) = refl
-small_limited depth shallow (AddForm name left_factor left right_factor right) = refl
-small_limited depth shallow (MulForm name left right) = refl
-small_limited depth shallow (InnerForm left right) = refl
-small_limited depth shallow (PrintForm name) = refl
-small_limited depth shallow (SizeForm name) = refl
-small_limited depth shallow FenceForm = refl
+small_limited depth shallow (CommandForm command) = refl
 
 by_limits : (a b : Bool) (rest : Result Command FaultKind) (c : Command) (next : Command → Result Command FaultKind) → next c ≡ checked BeyondLimits (a && b) rest → next c ≡ read BeyondLimits (some_if a c) next
 by_limits true b rest c next is = refl

@@ -1,4 +1,4 @@
--- Which line a fault is told of: the first that has one. The line at index 0 has the number 1.
+-- Which line's fault is reported: that of the first line that has one. The line at index 0 has the number 1.
 use Rattle.std.specs.Prelude.{◌≡◌, ℕ, ◌+◌, ◌-◌, ◌<◌, ◌==◌, List, [], ◌∷◌, get_or, take, drop, Option, Some, None, is_none, Ok, Err, if◌then◌else◌}
 use Rattle.std.specs.List.{flat_map, prefix_len}
 use Rattle.std.specs.Option.{option_map_or}

@@ -1,5 +1,5 @@
--- The forms of a job's lines, as readers of their words: each takes words off the front, and answers what they say and
--- the words after them, or nothing where they aren't in its form.
+-- The forms of a job's lines, as readers of their words: each reads the first words, and returns what they say and the
+-- words after them, or nothing where they aren't in its form.
 use Rattle.std.specs.Prelude.{ℕ, List, [], ◌∷◌, Option, Some, None, option_and_then, ℤ, pos, negsuc, codes, if◌then◌else◌, nat_le}
 use Rattle.std.specs.Option.{option_map}
 use Rattle.std.specs.Str.{bytes_eq}
@@ -24,7 +24,7 @@ abbrev pub no_more : Words → Option (Unit {0})
 no_more [] = Some tt
 no_more (word ∷ rest) = None
 
--- this very word stands there
+-- the first word is this very one
 abbrev pub keyword : List ℕ → Words → Option Words
 keyword text [] = None
 keyword text (word ∷ rest) = if bytes_eq word text then Some rest else None
@@ -123,19 +123,11 @@ verb_of word =
     else if bytes_eq word (codes "fence") then Some Fence
     else None
 
--- a line of a job as its words say it, with any numbers
+-- a line of a job as its words say it: a command, or one whose numbers that must not be negative may be so
 pub data Form : Type 0 where
   ProjectForm : (name : List ℕ) (function : FunctionForm) (level tolerance : ℤ) → Form
   RefineForm : (name : List ℕ) (level : ℤ) → Form
-  CoarsenForm : (name : List ℕ) → Form
-  CompressForm : (name : List ℕ) → Form
-  ReconstructForm : (name : List ℕ) → Form
-  AddForm : (name : List ℕ) (left_factor : ℤ) (left : List ℕ) (right_factor : ℤ) (right : List ℕ) → Form
-  MulForm : (name left right : List ℕ) → Form
-  InnerForm : (left right : List ℕ) → Form
-  PrintForm : (name : List ℕ) → Form
-  SizeForm : (name : List ℕ) → Form
-  FenceForm : Form
+  CommandForm : (command : Command) → Form
 
 -- `NAME FUNC level N tol T`
 abbrev pub project_of : Words → Option Form
@@ -183,7 +175,7 @@ add_of words = do
   b ← number_at plus
   right ← name_at b.1
   end ← no_more right.1
-  Some (AddForm name.0 a.0 left.0 b.0 right.0)
+  Some (CommandForm (AddCommand name.0 a.0 left.0 b.0 right.0))
 
 -- `NAME = NAME * NAME`
 abbrev pub mul_of : Words → Option Form
@@ -194,25 +186,25 @@ mul_of words = do
   times ← keyword (codes "*") left.1
   right ← name_at times
   end ← no_more right.1
-  Some (MulForm name.0 left.0 right.0)
+  Some (CommandForm (MulCommand name.0 left.0 right.0))
 
 abbrev pub fence_of : Words → Option Form
 fence_of words = do
   end ← no_more words
-  Some FenceForm
+  Some (CommandForm FenceCommand)
 
 -- the form of the words after a command's first
 abbrev pub form_of : Verb → Words → Option Form
 form_of Project words = project_of words
 form_of Refine words = refine_of words
-form_of Coarsen words = option_map CoarsenForm (one_name words)
-form_of Compress words = option_map CompressForm (one_name words)
-form_of Reconstruct words = option_map ReconstructForm (one_name words)
+form_of Coarsen words = option_map (λ name. CommandForm (CoarsenCommand name)) (one_name words)
+form_of Compress words = option_map (λ name. CommandForm (CompressCommand name)) (one_name words)
+form_of Reconstruct words = option_map (λ name. CommandForm (ReconstructCommand name)) (one_name words)
 form_of Add words = add_of words
 form_of Mul words = mul_of words
-form_of Inner words = option_map (λ names. InnerForm names.0 names.1) (two_names words)
-form_of Print words = option_map PrintForm (one_name words)
-form_of Size words = option_map SizeForm (one_name words)
+form_of Inner words = option_map (λ names. CommandForm (InnerCommand names.0 names.1)) (two_names words)
+form_of Print words = option_map (λ name. CommandForm (PrintCommand name)) (one_name words)
+form_of Size words = option_map (λ name. CommandForm (SizeCommand name)) (one_name words)
 form_of Fence words = fence_of words
 
 -- the function of a form, whose edges, seed and modulus aren't negative
@@ -237,12 +229,4 @@ command_of_form (ProjectForm name function level tolerance) = do
   t ← size_of tolerance
   Some (ProjectCommand name (record { function = f; level = n; tolerance = t }))
 command_of_form (RefineForm name level) = option_map (RefineCommand name) (size_of level)
-command_of_form (CoarsenForm name) = Some (CoarsenCommand name)
-command_of_form (CompressForm name) = Some (CompressCommand name)
-command_of_form (ReconstructForm name) = Some (ReconstructCommand name)
-command_of_form (AddForm name left_factor left right_factor right) = Some (AddCommand name left_factor left right_factor right)
-command_of_form (MulForm name left right) = Some (MulCommand name left right)
-command_of_form (InnerForm left right) = Some (InnerCommand left right)
-command_of_form (PrintForm name) = Some (PrintCommand name)
-command_of_form (SizeForm name) = Some (SizeCommand name)
-command_of_form FenceForm = Some FenceCommand
+command_of_form (CommandForm command) = Some command

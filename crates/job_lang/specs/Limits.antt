@@ -2,11 +2,11 @@
 use Rattle.std.specs.Prelude.{ℕ, ℤ, Option, Some, None, nat_le, if◌then◌else◌}
 use Rattle.std.specs.Option.{option_map}
 use Rattle.tree_model.specs.Commands.{Command}
-use Rattle.tree_model.specs.Commands.Command.{Project, Refine, Coarsen, Compress, Reconstruct, Add, Mul, Inner, Print, Size, Fence}
+use Rattle.tree_model.specs.Commands.Command.{Project, Refine}
 use Rattle.tree_model.specs.Functions.{Function}
 use Rattle.tree_model.specs.Functions.Function.{Const as ConstFunction, Ramp as RampFunction, Step as StepFunction, Box as BoxFunction, Hash as HashFunction}
 use Rattle.job_lang.specs.Grammar.{◌>>=◌, Form, size_of}
-use Rattle.job_lang.specs.Grammar.Form.{ProjectForm, RefineForm, CoarsenForm, CompressForm, ReconstructForm, AddForm, MulForm, InnerForm, PrintForm, SizeForm, FenceForm}
+use Rattle.job_lang.specs.Grammar.Form.{ProjectForm, RefineForm, CommandForm}
 use Rattle.job_lang.specs.declared.function_form.FunctionForm.{FunctionForm}
 use Rattle.job_lang.specs.declared.function_form.FunctionForm.TheVariants.{Const, Ramp, Step, Box, Hash}
 
@@ -45,12 +45,4 @@ small_command (ProjectForm name function level tolerance) = do
   t ← size_up_to max_32_bits tolerance
   Some (Project name (record { function = f; level = n; tolerance = t }))
 small_command (RefineForm name level) = option_map (Refine name) (size_up_to max_8_bits level)
-small_command (CoarsenForm name) = Some (Coarsen name)
-small_command (CompressForm name) = Some (Compress name)
-small_command (ReconstructForm name) = Some (Reconstruct name)
-small_command (AddForm name left_factor left right_factor right) = Some (Add name left_factor left right_factor right)
-small_command (MulForm name left right) = Some (Mul name left right)
-small_command (InnerForm left right) = Some (Inner left right)
-small_command (PrintForm name) = Some (Print name)
-small_command (SizeForm name) = Some (Size name)
-small_command FenceForm = Some Fence
+small_command (CommandForm command) = Some command

@@ -28,11 +28,11 @@ command_of_words depth before (word ∷ rest) =
 abbrev pub command_of_line : ℕ → List Command → List ℕ → Result Command FaultKind
 command_of_line depth before line = checked ForeignByte (list_all is_allowed line) (command_of_words depth before (words line))
 
--- the depth that a line tells as the header, or the lowest kind of fault that it has
+-- the depth that a line has as the header, or the lowest kind of fault that it has
 abbrev pub depth_of_line : List ℕ → Result ℕ FaultKind
 depth_of_line line = checked ForeignByte (list_all is_allowed line) (read NoHeader (header_of (words line)) (λ depth. Ok depth))
 
--- the depth that the header tells, the lines after it, and the number of the first of them
+-- the depth that the header has, the lines after it, and the number of the first of them
 pub record Header : Type 0 where
   pub depth : ℕ
   pub number : ℕ

@@ -52,11 +52,11 @@ fn add_function(text: &mut Text, function: &Func) -> Result<(), OutOfMemory>
             add_number(text, start)?;
             add_number(text, slope)
         }
-        Func::Step(edge, before, behind) => {
+        Func::Step(edge, before, after) => {
             add_word(text, b"step")?;
             add_size(text, edge)?;
             add_number(text, before)?;
-            add_number(text, behind)
+            add_number(text, after)
         }
         Func::Box(start, end, value) => {
             add_word(text, b"box")?;

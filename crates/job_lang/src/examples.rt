@@ -152,7 +152,7 @@ pub fn canonical_texts()
         ≡ codes "job 1 depth 16\nproject f hash 0 12 level 0 tol 7\ncoarsen f\nadd s = -10 f + 0 f\nfence\nsize s\n" }
 {}
 
-/// The lines that tell faults.
+/// The lines that report faults.
 pub fn fault_lines()
     ensures command { fault_line (record { line = 4; kind = UnknownCommand }) ≡ codes "fault line 4 F3 unknown command" }
     ensures byte { fault_line (record { line = 1; kind = ForeignByte }) ≡ codes "fault line 1 F1 byte outside ASCII" }

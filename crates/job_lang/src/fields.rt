@@ -1,4 +1,4 @@
-//! Readers of the words of a line: each takes words off the front, and answers what they say and the words after them.
+//! Readers of the words of a line: each reads the first words, and returns what they say and the words after them.
 ghost use Rattle.std.specs.Prelude.{◌≡◌};
 ghost use Rattle.job_lang.specs.Grammar.{box_at, const_at, function_at, hash_at, keyword, name_at, no_more, number_at, one_name, ramp_at, size_at, step_at, two_names};
 ghost use Rattle.job_lang.specs.Slices.{function_read, name_only, name_read, names_only, number_read, rest_read, texts};
@@ -95,8 +95,8 @@ pub fn step_at<'a, 'b>(words: &'b [&'a [u8]]) -> Option<(FunctionForm, &'b [&'a 
     let words = keyword(b"step", words)?;
     let (edge, words) = number_at(words)?;
     let (before, words) = number_at(words)?;
-    let (behind, words) = number_at(words)?;
-    Some((FunctionForm::Step(edge, before, behind), words))
+    let (after, words) = number_at(words)?;
+    Some((FunctionForm::Step(edge, before, after), words))
 }
 
 /// The function `box X Y V`, and the words after it.

@@ -11,67 +11,29 @@ use crate::fields::{
 use crate::function_form::FunctionForm;
 use crate::verb::Verb;
 use haar_node::MAX_DEPTH;
+use job_data::Command;
 use job_words::Name;
 
-/// A line of a job as its words say it, with any numbers.
+/// A line of a job as its words say it.
 #[derive(Clone, Copy)]
 pub enum Form {
-    /// `project NAME FUNC level N tol T`
+    /// `project NAME FUNC level N tol T`, with any numbers
     Project {
         name: Name,
         function: FunctionForm,
         level: i64,
         tolerance: i64,
     },
-    /// `refine NAME N`
+    /// `refine NAME N`, with any number
     Refine {
         name: Name,
         level: i64,
     },
-    /// `coarsen NAME`
-    Coarsen {
-        name: Name,
-    },
-    /// `compress NAME`
-    Compress {
-        name: Name,
-    },
-    /// `reconstruct NAME`
-    Reconstruct {
-        name: Name,
-    },
-    /// `add NAME = A NAME + B NAME`
-    Add {
-        name: Name,
-        left_factor: i64,
-        left: Name,
-        right_factor: i64,
-        right: Name,
-    },
-    /// `mul NAME = NAME * NAME`
-    Mul {
-        name: Name,
-        left: Name,
-        right: Name,
-    },
-    /// `inner NAME NAME`
-    Inner {
-        left: Name,
-        right: Name,
-    },
-    /// `print NAME`
-    Print {
-        name: Name,
-    },
-    /// `size NAME`
-    Size {
-        name: Name,
-    },
-    /// `fence`
-    Fence,
+    /// A command whose numbers, if it has any, are those of the words.
+    Command(Command),
 }
 
-/// The depth that the header `job 1 depth D` tells. None exactly where the words aren't that, or the depth is above 16.
+/// The depth of the header `job 1 depth D`. None exactly where the words aren't that, or the depth is above 16.
 pub fn header_of(words: &[&[u8]]) -> Option<u8>
     ensures value { result ≡ header_of (texts words.now) }
     ensures small { IfSome result (λ d. d ≤ max_depth) }
@@ -132,13 +94,13 @@ impl Form {
         let (right_factor, words) = number_at(words)?;
         let (right, words) = name_at(words)?;
         no_more(words)?;
-        Some(Form::Add {
+        Some(Form::Command(Command::Add {
             name,
             left_factor,
             left,
             right_factor,
             right,
-        })
+        }))
     }
 
     // `NAME = NAME * NAME`
@@ -151,7 +113,7 @@ impl Form {
         let words = keyword(b"*", words)?;
         let (right, words) = name_at(words)?;
         no_more(words)?;
-        Some(Form::Mul { name, left, right })
+        Some(Form::Command(Command::Mul { name, left, right }))
     }
 
     /// The form of the words after a verb. None exactly where they aren't in its form.
@@ -163,33 +125,33 @@ impl Form {
             Verb::Refine => Form::refine_of(words),
             Verb::Coarsen => {
                 let name = one_name(words)?;
-                Some(Form::Coarsen { name })
+                Some(Form::Command(Command::Coarsen { name }))
             }
             Verb::Compress => {
                 let name = one_name(words)?;
-                Some(Form::Compress { name })
+                Some(Form::Command(Command::Compress { name }))
             }
             Verb::Reconstruct => {
                 let name = one_name(words)?;
-                Some(Form::Reconstruct { name })
+                Some(Form::Command(Command::Reconstruct { name }))
             }
             Verb::Add => Form::add_of(words),
             Verb::Mul => Form::mul_of(words),
             Verb::Inner => {
                 let (left, right) = two_names(words)?;
-                Some(Form::Inner { left, right })
+                Some(Form::Command(Command::Inner { left, right }))
             }
             Verb::Print => {
                 let name = one_name(words)?;
-                Some(Form::Print { name })
+                Some(Form::Command(Command::Print { name }))
             }
             Verb::Size => {
                 let name = one_name(words)?;
-                Some(Form::Size { name })
+                Some(Form::Command(Command::Size { name }))
             }
             Verb::Fence => {
                 no_more(words)?;
-                Some(Form::Fence)
+                Some(Form::Command(Command::Fence))
             }
         }
     }

@@ -45,9 +45,9 @@ impl FunctionForm {
         match *self {
             FunctionForm::Const(constant) => Some(Func::Const(constant)),
             FunctionForm::Ramp(start, slope) => Some(Func::Ramp(start, slope)),
-            FunctionForm::Step(edge, before, behind) => {
+            FunctionForm::Step(edge, before, after) => {
                 let edge = size_up_to(MAX_SIZE, edge)?;
-                Some(Func::Step(edge as u32, before, behind))
+                Some(Func::Step(edge as u32, before, after))
             }
             FunctionForm::Box(start, end, value) => {
                 let start = size_up_to(MAX_SIZE, start)?;

@@ -1,12 +1,12 @@
-//! The job language: a text of lines becomes a job, or the first fault that stands in it.
+//! The job language: a text of lines becomes a job, or the first fault that is in it.
 //!
 //! The first line that isn't empty or a comment is the header, `job 1 depth D`. Each line after it is a command:
 //! `project NAME FUNC level N tol T`, `refine NAME N`, `coarsen NAME`, `compress NAME`, `reconstruct NAME`,
 //! `add NAME = A NAME + B NAME`, `mul NAME = NAME * NAME`, `inner NAME NAME`, `print NAME`, `size NAME` or `fence`. `FUNC`
-//! is `const C`, `ramp A B`, `step X L H`, `box X Y V` or `hash S M`. Words stand between spaces and tabs, and a line whose
+//! is `const C`, `ramp A B`, `step X L H`, `box X Y V` or `hash S M`. Words are between spaces and tabs, and a line whose
 //! first word begins with `#` is a comment.
 //!
-//! Jobs as data, and the checks of their commands, stand in `job_data`. This crate hands their types on.
+//! Jobs as data, and the checks of their commands, are in `job_data`. This crate re-exports their types.
 #![tactic(auto)]
 
 mod accepted;

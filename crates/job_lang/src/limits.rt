@@ -38,27 +38,7 @@ impl Form {
                 let level = size_up_to(MAX_LEVEL, level)? as u8;
                 Some(Command::Refine { name, level })
             }
-            Form::Coarsen { name } => Some(Command::Coarsen { name }),
-            Form::Compress { name } => Some(Command::Compress { name }),
-            Form::Reconstruct { name } => Some(Command::Reconstruct { name }),
-            Form::Add {
-                name,
-                left_factor,
-                left,
-                right_factor,
-                right,
-            } => Some(Command::Add {
-                name,
-                left_factor,
-                left,
-                right_factor,
-                right,
-            }),
-            Form::Mul { name, left, right } => Some(Command::Mul { name, left, right }),
-            Form::Inner { left, right } => Some(Command::Inner { left, right }),
-            Form::Print { name } => Some(Command::Print { name }),
-            Form::Size { name } => Some(Command::Size { name }),
-            Form::Fence => Some(Command::Fence),
+            Form::Command(command) => Some(command),
         }
     }
 }

@@ -23,7 +23,7 @@ struct Header<'a> {
     rest: &'a [u8],
 }
 
-// The depth that a line tells as the header, or the lowest kind of fault that it has.
+// The depth that a line has as the header, or the lowest kind of fault that it has.
 fn depth_of_line(line: &[u8], words: &[&[u8]]) -> Result<u8, FaultKind>
     requires { texts words.now ≡ line_words line.now }
     ensures value { result ≡ depth_of_line line.now }

@@ -1,4 +1,4 @@
-//! What `parse` answers, at texts whose readings were worked out by hand.
+//! What `parse` returns, at texts whose readings were worked out by hand.
 use super::*;
 use haar_node::Func;
 use std::alloc::{AllocError, Global};
