@@ -85,17 +85,11 @@ impl Command {
                 level,
                 tolerance,
             } => Signature::projecting(name, function, level, tolerance),
-            Command::Refine { name, level } => {
-                Signature::changing(name, reconstructed, reconstructed, Numbers::Level(level))
-            }
-            Command::Coarsen { name } => {
-                Signature::changing(name, reconstructed, reconstructed, Numbers::Nothing)
-            }
-            Command::Compress { name } => {
-                Signature::changing(name, reconstructed, compressed, Numbers::Nothing)
-            }
+            Command::Refine { name, level } => Signature::reshaping(name, Numbers::Level(level)),
+            Command::Coarsen { name } => Signature::reshaping(name, Numbers::Nothing),
+            Command::Compress { name } => Signature::converting(name, reconstructed, compressed),
             Command::Reconstruct { name } => {
-                Signature::changing(name, compressed, reconstructed, Numbers::Nothing)
+                Signature::converting(name, compressed, reconstructed)
             }
             Command::Add {
                 name,

@@ -5,6 +5,7 @@ ghost use Rattle.job_words.specs.NameBytes.{bytes_of};
 ghost use Rattle.job_data.specs.Data.{form_of};
 ghost use Rattle.job_data.specs.Reads.{names_of};
 ghost use Rattle.tree_model.specs.Nodes.Form.{Reconstructed};
+ghost use Rattle.tree_model.specs.Signatures.Numbers.{NoNumbers};
 ghost use Rattle.job_data.specs.declared.signature.Numbers.TheVariants.{Projection};
 ghost use Rattle.tree_model.specs.Signatures.{are_within, fencing, is_factor, reading, writing};
 
@@ -121,12 +122,21 @@ impl Signature {
         Signature::writing(name, TreeForm::Reconstructed, Reads::Nothing, None, numbers)
     }
 
-    /// Of a command that writes a tree in place of one in another form, or of another shape.
-    pub fn changing(name: Name, from: TreeForm, to: TreeForm, numbers: Numbers) -> Signature
+    /// Of a command that writes a tree in place of one of another shape.
+    pub fn reshaping(name: Name, numbers: Numbers) -> Signature
         ensures { signature_data result
-            ≡ writing (bytes_of name) (form_of to) (bytes_of name ∷ []) (Some (form_of from)) (numbers_of numbers) }
+            ≡ writing (bytes_of name) Reconstructed (bytes_of name ∷ []) (Some Reconstructed) (numbers_of numbers) }
     {
-        Signature::writing(name, to, Reads::One(name), Some(from), numbers)
+        let form = TreeForm::Reconstructed;
+        Signature::writing(name, form, Reads::One(name), Some(form), numbers)
+    }
+
+    /// Of a command that writes a tree in place of one in the other form.
+    pub fn converting(name: Name, from: TreeForm, to: TreeForm) -> Signature
+        ensures { signature_data result
+            ≡ writing (bytes_of name) (form_of to) (bytes_of name ∷ []) (Some (form_of from)) NoNumbers }
+    {
+        Signature::writing(name, to, Reads::One(name), Some(from), Numbers::Nothing)
     }
 
     /// Of a command that makes a tree of two others, all in one form.
