@@ -1,3 +1,2 @@
 pub mod BookPartLemmas
-pub mod LonePartLemmas
 pub mod BookExampleLemmas

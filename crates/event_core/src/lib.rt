@@ -10,8 +10,6 @@ mod book;
 mod examples;
 mod laws;
 mod list;
-#[cfg(test)]
-mod tests;
 
 pub use book::{Book, LanePart};
 pub use event_laws::ListLaws;

@@ -11,7 +11,5 @@ mod items;
 mod lanes;
 mod list;
 mod past;
-#[cfg(test)]
-mod tests;
 
 pub use list::SearchedList;

@@ -17,8 +17,6 @@ mod puts;
 mod receipts;
 mod spawns;
 mod table;
-#[cfg(test)]
-mod tests;
 
 pub use indexes::Indexes;
 pub use keys::{CountName, EntryName, PassName};

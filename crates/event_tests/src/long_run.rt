@@ -1,7 +1,7 @@
 //! A long run.
-use super::offers::{Step, taken};
-use super::rounds::{EVENTS, RANKS, events, hand};
-use crate::EventList;
+use crate::offers::{Step, taken};
+use crate::rounds::{EVENTS, RANKS, events, hand};
+use event_core::EventList;
 use event_lists::Event;
 use std::test::Fail;
 

@@ -1,6 +1,6 @@
 //! Whether the indexed list judges as the searched one does.
-use super::offers::{Both, Step};
-use super::rounds::{EVENTS, RANKS, WORKERS, bin, ends, entry, events, fence, hand, receipt, rows};
+use crate::offers::{Both, Step};
+use crate::rounds::{EVENTS, RANKS, WORKERS, bin, ends, entry, events, fence, hand, receipt, rows};
 use event_lists::{Event, LaneName};
 use std::alloc::Global;
 use std::process::Abort;

@@ -1,10 +1,10 @@
-//! Small runs, given event by event.
+//! Small runs, given to a searched list event by event.
 ghost use Rattle.event_rules.specs.Listed.{AreInRange};
 
-use super::*;
 use app_core::{Label, Needs, OutOfMemory};
 use event_lists::{Event, Item, LaneName, Parcel, Row, TaskName};
 use event_rules::{Made, Past};
+use event_search::SearchedList;
 use std::alloc::Global;
 
 // The lane of a rank's main.

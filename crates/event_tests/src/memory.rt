@@ -1,9 +1,9 @@
 //! What a list is when memory ran out.
 //!
 //! No memory runs out where this is run as it is. `rt try --test --fail-alloc N` makes the Nth allocation fail.
-use super::offers::Step;
-use super::rounds::{EVENTS, RANKS, WORKERS, events, hand};
-use crate::EventList;
+use crate::offers::Step;
+use crate::rounds::{EVENTS, RANKS, WORKERS, events, hand};
+use event_core::EventList;
 use event_lists::Event;
 use std::process::Abort;
 use std::test::Fail;

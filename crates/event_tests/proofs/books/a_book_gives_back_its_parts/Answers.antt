@@ -1,7 +1,7 @@
 use Rattle.std.proofs.Common.{rules, ◌≡◌, [], ◌∷◌, ap, reverse}
 use Rattle.event_lists.specs.declared.event.Event.TheVariants.{Enter}
-use Rattle.event_core.proofs.tests.books.a_book_gives_back_its_parts.Goals as goal
-use Rattle.event_core.proofs.LonePartLemmas.{are_book}
+use Rattle.event_tests.proofs.books.a_book_gives_back_its_parts.Goals as goal
+use Rattle.event_tests.proofs.LonePartLemmas.{are_book}
 
 pub new-book-requires : goal.new-book-requires
 new-book-requires g c =

@@ -2,7 +2,7 @@
 //!
 //! In a round rank 0 submits three tasks, and sends a unit to each other rank. The second task needs a value that the
 //! first gives, and the third needs the values that the other ranks send back. A fence ends the round.
-use super::offers::Step;
+use crate::offers::Step;
 use app_core::{CellName, Label, Needs};
 use event_lists::{Event, LaneName, Parcel, Receipt, Row, Rows, TaskName};
 use std::alloc::Global;

@@ -1,8 +1,8 @@
 //! Lists that take events, whichever they are.
 ghost use Rattle.event_rules.specs.Listed.{AreInRange};
 
-use crate::EventList;
 use app_core::OutOfMemory;
+use event_core::EventList;
 use event_lists::{Event, LaneName, Mark};
 use event_search::SearchedList;
 use std::alloc::Global;
@@ -67,7 +67,7 @@ impl Both {
         })
     }
 
-    /// What both answer to an event. None where they don't agree.
+    /// What both return for an event. None where they don't agree.
     pub fn offer(&mut self, lane: LaneName, event: &Event) -> Result<Option<bool>, OutOfMemory> {
         let indexed = self.indexed.offer(lane, event)?;
         let searched = self.searched.offer(lane, event)?;

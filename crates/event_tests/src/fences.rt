@@ -1,8 +1,8 @@
 //! Fences of one rank, which counted nothing.
-use super::offers::{Offered, Step, taken};
-use super::rounds::hand;
-use crate::EventList;
+use crate::offers::{Offered, Step, taken};
+use crate::rounds::hand;
 use app_core::OutOfMemory;
+use event_core::EventList;
 use event_lists::{Event, Kind, Receipt, Row, Rows};
 use event_rules::allows;
 use event_search::SearchedList;

@@ -1,5 +1,5 @@
 //! A table at one type, through its bound.
-use crate::table::Table;
+use event_tables::Table;
 use std::test::Fail;
 
 // No clause can say that memory is left, so a table that never has room would meet those of `touch`.

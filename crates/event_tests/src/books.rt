@@ -1,5 +1,5 @@
 //! Books.
-use crate::{Book, LanePart};
+use event_core::{Book, LanePart};
 use event_lists::{Event, LaneName};
 use lane_trace::{LaneTrace, Room};
 use std::test::Fail;
