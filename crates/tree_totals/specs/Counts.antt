@@ -2,6 +2,7 @@
 use Rattle.std.specs.Prelude.{◌≡◌, ◌≤◌, ℕ, Bool, ℤ}
 use Rattle.std.specs.BTreeMap.{BTreeMap, get}
 use Rattle.owner_map.specs.Owners.{owner}
+use Rattle.owner_map.specs.declared.map.OwnerMap.{OwnerMap}
 use Rattle.tree_key.specs.Keys.{Key, key_cmp}
 use Rattle.tree_model.specs.Functions.{max_depth}
 use Rattle.tree_model.specs.Shapes.{key_count, is_interior}
@@ -13,9 +14,13 @@ use Rattle.tree_totals.specs.declared.distribution.Distribution.{Distribution as
 use Rattle.tree_totals.specs.declared.shape_count.ShapeCount.{ShapeCount}
 use Rattle.tree_totals.specs.declared.total.Total.{Total as TotalData}
 
+-- the keys of an owner map over so many ranks, as the model has them
+abbrev pub by_map : OwnerMap → ℕ → Distribution
+by_map map ranks = record { ranks = ranks; owner = λ k. owner map k ranks }
+
 -- the distribution, and the total, of the model
 abbrev pub distribution_of : DistributionData → Distribution
-distribution_of d = record { ranks = d.ranks; owner = λ k. owner d.map k d.ranks }
+distribution_of d = by_map d.map d.ranks
 
 abbrev pub total_of : TotalData → Total
 total_of t = record { messages = t.messages; tasks = t.tasks }

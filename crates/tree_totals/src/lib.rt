@@ -5,6 +5,7 @@
 #![tactic(auto)]
 
 mod distribution;
+mod examples;
 mod shape_count;
 #[cfg(test)]
 mod tests;

@@ -1,0 +1,7 @@
+use Rattle.std.proofs.Common.{refl}
+use Rattle.std.specs.Fmt.{digits}
+use Rattle.tree_totals.proofs.examples.receipts_by_levels_over_five_ranks.Goals as goal
+
+pub returns : goal.returns
+unfolding digits
+returns c = refl
