@@ -16,7 +16,7 @@ fn expected(alloc: Global, source: &[u8]) -> Result<(Text, Option<u32>), Fail> {
         Ok(job) => job,
         Err(_) => return Err(Fail::from("no job")),
     };
-    match serial(alloc, &job) {
+    match serial(alloc, &job, OwnerMap::Block, 1, false) {
         Ok(text) => Ok((text, None)),
         Err(SerialError::Overflow { command, text }) => Ok((text, Some(command))),
         Err(SerialError::OutOfMemory) => Err(Fail::from("no memory")),

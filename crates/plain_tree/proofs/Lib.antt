@@ -21,3 +21,5 @@ pub mod SizeLemmas
 pub mod FoundTreeLemmas
 pub mod VersionLemmas
 pub mod SerialLemmas
+pub mod ReceiptLemmas
+pub mod CountingLemmas

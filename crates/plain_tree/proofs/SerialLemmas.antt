@@ -1,5 +1,5 @@
 -- A job's commands one after another: what the names stand for, the lines, and the first overflow.
-use Rattle.std.proofs.Common.{◌≡◌, ℕ, suc, ◌+◌, ◌<◌, List, [], ◌∷◌, ◌++◌, length, map, take, drop, get_or, true, false, cond, Some, sym, ◌∙◌, ap, subst, arith, append_assoc, append-nil, add-one}
+use Rattle.std.proofs.Common.{◌≡◌, ℕ, suc, ◌+◌, ◌<◌, List, [], ◌∷◌, ◌++◌, length, map, take, drop, get_or, true, false, cond, Some, refl, sym, ◌∙◌, ap, subst, arith, append_assoc, append-nil, add-one}
 use Rattle.std.specs.List.{fold}
 use Rattle.std.proofs.lemmas.List.{take_more, get_or-map, length-map, length-take}
 use Rattle.std.proofs.lemmas.List.Sums.{fold_push}
@@ -10,6 +10,10 @@ use Rattle.tree_model.specs.Versions.{Versions, no_versions, after, versions_beh
 use Rattle.job_data.specs.Checks.{is_within_limits, are_accepted, max_commands}
 use Rattle.job_data.proofs.CheckLemmas.{accepted_at, are_accepted_at, follows_accepted}
 use Rattle.job_data.proofs.HistoryLemmas.{follows_length}
+use Rattle.plain_tree.specs.declared.command_error.CommandError.{CommandError}
+use Rattle.plain_tree.specs.declared.command_error.CommandError.TheVariants.{Overflow, OutOfMemory}
+use Rattle.plain_tree.specs.declared.serial_error.SerialError.{SerialError}
+use Rattle.plain_tree.specs.declared.serial_error.SerialError.TheVariants.{Overflow as Overflowed, OutOfMemory as NoMemory}
 
 -- the command at a place
 pub record IsAt (cs : List Command) (i : ℕ) (c : Command) : Type 0 where
@@ -19,7 +23,7 @@ pub record IsAt (cs : List Command) (i : ℕ) (c : Command) : Type 0 where
 pub mapped_at : {A : Type 0} (f : A → Command) (xs : List A) (i : ℕ) (x : A) → i < length xs → x ≡ get_or xs i x → IsAt (map f xs) i (f x)
 mapped_at f xs i x below is = record { below = rw (length-map xs f) below; at = get_or-map f xs i x (f x) below ∙ ap f (sym is) }
 
-take_next : (cs : List Command) (i : ℕ) (c : Command) → IsAt cs i c → take (i + 1) cs ≡ take i cs ++ c ∷ []
+pub take_next : (cs : List Command) (i : ℕ) (c : Command) → IsAt cs i c → take (i + 1) cs ≡ take i cs ++ c ∷ []
 take_next cs i c is = take_more cs i c is.below ∙ ap (λ x. take i cs ++ x ∷ []) is.at
 
 pub drop_next : (cs : List Command) (i : ℕ) (c : Command) → IsAt cs i c → drop i cs ≡ c ∷ drop (i + 1) cs
@@ -75,3 +79,13 @@ few_before depth cs i c all is =
     let few = follows_length before d follows in
     let below = is.below in
     omega (arith, few, length-take i cs)
+
+-- a job that is stopped with an overflow is stopped by one, at the command of that number
+pub stopped_by :
+    (error : CommandError) (result : SerialError) (number command : ℕ) (text before : List ℕ) →
+    (error ≡ Overflow → result ≡ Overflowed number text) →
+    (error ≡ OutOfMemory → result ≡ NoMemory) →
+    result ≡ Overflowed command before →
+    (error ≡ Overflow) × (number ≡ command)
+stopped_by Overflow result number command text before over memory is = let same : Overflowed number text ≡ Overflowed command before = sym (over refl) ∙ is in (refl, cc)
+stopped_by OutOfMemory result number command text before over memory is = let same : NoMemory ≡ Overflowed command before = sym (memory refl) ∙ is in absurd (cc)

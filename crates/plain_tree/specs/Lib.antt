@@ -10,3 +10,4 @@ pub mod Trees
 pub mod WholeSums
 pub mod Multiplied
 pub mod Coarsening
+pub mod Receipts

@@ -1,12 +1,15 @@
-//! Whole jobs, made of their parts. The expected texts were worked out by hand.
+//! Whole jobs, made of their parts. The expected texts were worked out by hand; those of whole jobs with receipts are from
+//! another program.
 
 use crate::{SerialError, serial};
 use haar_node::Func;
 use job_data::{Command, Job};
 use job_words::Name;
+use owner_map::OwnerMap;
 use std::alloc::Global;
 use std::process::Abort;
 use std::test::Fail;
+use tree_totals::Distribution;
 
 fn name(bytes: &[u8]) -> Result<Name, Fail> {
     match Name::of_word(bytes) {
@@ -15,14 +18,28 @@ fn name(bytes: &[u8]) -> Result<Name, Fail> {
     }
 }
 
-fn project(to: &[u8], function: Func, tolerance: u32) -> Result<Command, Fail> {
+fn project_to(
+    to: &[u8],
+    function: Func,
+    level: u8,
+    tolerance: u32,
+) -> Result<Command, Fail> {
     let name = name(to)?;
     Ok(Command::Project {
         name,
         function,
-        level: 0,
+        level,
         tolerance,
     })
+}
+
+fn project(to: &[u8], function: Func, tolerance: u32) -> Result<Command, Fail> {
+    project_to(to, function, 0, tolerance)
+}
+
+fn refine(bytes: &[u8], level: u8) -> Result<Command, Fail> {
+    let name = name(bytes)?;
+    Ok(Command::Refine { name, level })
 }
 
 fn compress(bytes: &[u8]) -> Result<Command, Fail> {
@@ -76,8 +93,16 @@ fn inner(left: &[u8], right: &[u8]) -> Result<Command, Fail> {
     Ok(Command::Inner { left, right })
 }
 
+// What a job is done with: keys that are distributed over ranks, with receipts or without them.
+#[derive(Clone, Copy)]
+struct Setting {
+    distribution: Distribution,
+    receipts: bool,
+}
+
 // Does the job of these parts, and compares its text and the command that overflows; 0 stands for none.
-fn expect(
+fn expect_in(
+    setting: Setting,
     rt: &impl Abort,
     alloc: Global,
     depth: u8,
@@ -86,7 +111,8 @@ fn expect(
     expected: &[u8],
 ) {
     let job = Job::of_commands(depth, commands).expect(rt, "the commands are a job");
-    match serial(alloc, &job) {
+    let Distribution { map, ranks } = setting.distribution;
+    match serial(alloc, &job, map, ranks, setting.receipts) {
         Ok(text) => {
             assert_eq!(rt; overflow, 0);
             assert_eq!(rt; text.bytes(), expected);
@@ -97,6 +123,43 @@ fn expect(
         }
         Err(SerialError::OutOfMemory) => assert!(rt; false, "there is memory"),
     }
+}
+
+// The same without receipts.
+fn expect(
+    rt: &impl Abort,
+    alloc: Global,
+    depth: u8,
+    commands: Vec<Command>,
+    overflow: u32,
+    expected: &[u8],
+) {
+    let distribution = Distribution {
+        map: OwnerMap::Spread,
+        ranks: 3,
+    };
+    let setting = Setting {
+        distribution,
+        receipts: false,
+    };
+    expect_in(setting, rt, alloc, depth, commands, overflow, expected);
+}
+
+// The same with receipts.
+fn expect_receipts(
+    distribution: Distribution,
+    rt: &impl Abort,
+    alloc: Global,
+    depth: u8,
+    commands: Vec<Command>,
+    overflow: u32,
+    expected: &[u8],
+) {
+    let setting = Setting {
+        distribution,
+        receipts: true,
+    };
+    expect_in(setting, rt, alloc, depth, commands, overflow, expected);
 }
 
 const RAMP: Func = Func::Ramp(0, 1);
@@ -139,11 +202,7 @@ fn a_tree_is_refined_and_multiplied(rt: HostRuntime) -> Result<(), Fail> {
     let mut commands = Vec::new(alloc);
     commands.push(project(b"f", RAMP, 2)?)?;
     commands.push(print(b"f")?)?;
-    let refined = name(b"f")?;
-    commands.push(Command::Refine {
-        name: refined,
-        level: 1,
-    })?;
+    commands.push(refine(b"f", 1)?)?;
     commands.push(project(b"g", Func::Step(1, 2, -3), 0)?)?;
     commands.push(multiply(b"f", b"g", b"g")?)?;
     commands.push(print(b"f")?)?;
@@ -164,14 +223,8 @@ fn size(bytes: &[u8]) -> Result<Command, Fail> {
 
 // Splits the tree of a function down to its cells, coarsens it, and prints it and its size in both forms.
 fn coarsened_job(alloc: Global, function: Func) -> Result<Vec<Command>, Fail> {
-    let to = name(b"f")?;
     let mut commands = Vec::new(alloc);
-    commands.push(Command::Project {
-        name: to,
-        function,
-        level: 3,
-        tolerance: 0,
-    })?;
+    commands.push(project_to(b"f", function, 3, 0)?)?;
     commands.push(coarsen(b"f")?)?;
     commands.push(print(b"f")?)?;
     commands.push(Command::Fence)?;
@@ -230,5 +283,76 @@ fn products_go_up_to_the_limit(rt: HostRuntime) -> Result<(), Fail> {
     commands.push(multiply(b"h", b"f", b"g")?)?;
     let text = b"tree h reconstructed\n0 0 -16777216\n";
     expect(&rt, alloc, 0, commands, 6, text.as_slice());
+    Ok(())
+}
+
+#[test]
+fn receipts_over_four_blocks(rt: HostRuntime) -> Result<(), Fail> {
+    let alloc = rt.alloc();
+    let mut commands = Vec::new(alloc);
+    commands.push(project_to(b"g", Func::Ramp(-1, 0), 3, 1)?)?;
+    commands.push(print(b"g")?)?;
+    commands.push(coarsen(b"g")?)?;
+    commands.push(print(b"g")?)?;
+    commands.push(Command::Fence)?;
+    commands.push(size(b"g")?)?;
+    commands.push(coarsen(b"g")?)?;
+    commands.push(compress(b"g")?)?;
+    commands.push(print(b"g")?)?;
+    commands.push(inner(b"g", b"g")?)?;
+    commands.push(reconstruct(b"g")?)?;
+    let distribution = Distribution {
+        map: OwnerMap::Block,
+        ranks: 4,
+    };
+    let text =
+        b"tree g reconstructed\n3 0 -1\n3 1 -1\n3 2 -1\n3 3 -1\n3 4 -1\n3 5 -1\n3 6 -1\n3 7 -1\ntree g reconstructed\n0 0 -8\nfence 1 messages 21 tasks 81\nsize g 1\ntree g compressed -8\ninner g g 8\nend messages 27 tasks 91\n";
+    expect_receipts(distribution, &rt, alloc, 3, commands, 0, text.as_slice());
+    Ok(())
+}
+
+#[test]
+fn receipts_of_sums_spread_over_three_ranks(rt: HostRuntime) -> Result<(), Fail> {
+    let alloc = rt.alloc();
+    let mut commands = Vec::new(alloc);
+    commands.push(project(b"tree_1", Func::Hash(0, 1), 3)?)?;
+    commands.push(coarsen(b"tree_1")?)?;
+    commands.push(compress(b"tree_1")?)?;
+    commands.push(project_to(b"f", Func::Ramp(60, 1), 2, 100)?)?;
+    commands.push(add(b"g", 1, b"tree_1", 0, b"tree_1")?)?;
+    commands.push(add(b"p", -3, b"tree_1", 0, b"tree_1")?)?;
+    commands.push(project_to(b"h", Func::Step(4, -1, 1), 1, 3)?)?;
+    commands.push(Command::Fence)?;
+    let distribution = Distribution {
+        map: OwnerMap::Spread,
+        ranks: 3,
+    };
+    let text = b"fence 1 messages 16 tasks 19\nend messages 16 tasks 19\n";
+    expect_receipts(distribution, &rt, alloc, 2, commands, 0, text.as_slice());
+    Ok(())
+}
+
+#[test]
+fn receipts_end_at_an_overflow(rt: HostRuntime) -> Result<(), Fail> {
+    let alloc = rt.alloc();
+    let mut commands = Vec::new(alloc);
+    commands.push(project_to(b"a", Func::Step(4, 16_777_215, -16_777_216), 1, 0)?)?;
+    commands.push(refine(b"a", 1)?)?;
+    commands.push(refine(b"a", 2)?)?;
+    commands.push(print(b"a")?)?;
+    commands.push(Command::Fence)?;
+    commands.push(size(b"a")?)?;
+    commands.push(project_to(b"f", Func::Hash(0, 12_179_904), 1, 1)?)?;
+    commands.push(size(b"a")?)?;
+    commands.push(multiply(b"a", b"a", b"f")?)?;
+    commands.push(Command::Fence)?;
+    commands.push(print(b"f")?)?;
+    let distribution = Distribution {
+        map: OwnerMap::Block,
+        ranks: 4,
+    };
+    let text =
+        b"tree a reconstructed\n2 0 16777215\n2 1 16777215\n2 2 16777215\n2 3 16777215\nfence 1 messages 16 tasks 28\nsize a 7\nsize a 7\n";
+    expect_receipts(distribution, &rt, alloc, 2, commands, 9, text.as_slice());
     Ok(())
 }

@@ -3,7 +3,7 @@ use Rattle.tree_model.specs.Jobs.{lines_from, overflow_from, first_overflow}
 use Rattle.tree_model.specs.Versions.{no_versions, versions_behind}
 use Rattle.job_data.specs.Data.{data_of}
 use Rattle.plain_tree.specs.Trees.{HasVersions}
-use Rattle.plain_tree.proofs.jobs.serial.Given as goal
+use Rattle.plain_tree.proofs.jobs.without_receipts.Given as goal
 
 abbrev pub invariant-loop-index : goal.invariant-loop-index
 invariant-loop-index l =

@@ -3,8 +3,9 @@ use Rattle.tree_model.specs.Jobs.{command_lines}
 use Rattle.tree_model.specs.Versions.{versions_behind}
 use Rattle.job_data.specs.Data.{data_of}
 use Rattle.plain_tree.specs.Trees.{HasVersions}
-use Rattle.plain_tree.proofs.SerialLemmas.{mapped_at, versions_next, lines_next, overflow_later, overflow_here, limits_at, few_before}
-use Rattle.plain_tree.proofs.jobs.serial.Goals as goal
+use Rattle.plain_tree.specs.declared.serial_error.SerialError.TheVariants.{Overflow}
+use Rattle.plain_tree.proofs.SerialLemmas.{mapped_at, versions_next, lines_next, overflow_later, overflow_here, limits_at, few_before, stopped_by}
+use Rattle.plain_tree.proofs.jobs.without_receipts.Goals as goal
 
 pub run_command-requires-clause-limits : goal.run_command-requires-clause-limits
 run_command-requires-clause-limits c =
@@ -14,35 +15,26 @@ run_command-requires-clause-limits c =
     let all = rw (← c.depth-depth.ensures.value, ← c.commands-command-items.ensures) at c.depth-depth.ensures.job.commands in
     limits_at c.depth-depth.result (map data_of xs) c.loop-index.index (data_of k) all is
 
-pub overflow_cast-command : goal.overflow_cast-command
-overflow_cast-command c =
+pub stopped-requires : goal.stopped-requires
+stopped-requires c =
     let xs = c.commands-command-items.result.now in
     let k = c.command-item.result in
     let is = mapped_at data_of xs c.loop-index.index k c.loop-index-test.true c.command-item.is in
     let all = rw (← c.depth-depth.ensures.value, ← c.commands-command-items.ensures) at c.depth-depth.ensures.job.commands in
-    let few = few_before c.depth-depth.result (map data_of xs) c.loop-index.index (data_of k) all is in
-    omega (arith, few)
+    few_before c.depth-depth.result (map data_of xs) c.loop-index.index (data_of k) all is
 
-pub overflow_add-command : goal.overflow_add-command
-overflow_add-command c =
-    let xs = c.commands-command-items.result.now in
-    let k = c.command-item.result in
-    let is = mapped_at data_of xs c.loop-index.index k c.loop-index-test.true c.command-item.is in
-    let all = rw (← c.depth-depth.ensures.value, ← c.commands-command-items.ensures) at c.depth-depth.ensures.job.commands in
-    let few = few_before c.depth-depth.result (map data_of xs) c.loop-index.index (data_of k) all is in
-    omega (arith, few)
-
-pub returns-in-Err-Overflow-clause-overflow : goal.returns-in-Err-Overflow-clause-overflow
-returns-in-Err-Overflow-clause-overflow c = λ command before same.
+pub returns-in-Err-clause-overflow : goal.returns-in-Err-clause-overflow
+returns-in-Err-clause-overflow c = λ command before same.
     let depth = c.depth-depth.result in
     let xs = c.commands-command-items.result.now in
     let cs = map data_of xs in
     let i = c.loop-index.index in
     let k = c.command-item.result in
     let is = mapped_at data_of xs i k c.loop-index-test.true c.command-item.is in
-    let over = c.in-Err-Overflow.ensures.over (ap Err c.in-Err-Overflow.field-0-is) (versions_behind depth (take i cs)) c.loop-index.invariant.trees in
-    let number : i + 1 ≡ command = cc in
-    sym c.loop-index.invariant.overflow ∙ overflow_here depth cs i (data_of k) is over ∙ ap Some number
+    let told : c.stopped.result ≡ Overflow command before = cc in
+    let stop = stopped_by c.in-Err.error c.stopped.result (i + 1) command _ before c.stopped.ensures.overflow c.stopped.ensures.out_of_memory told in
+    let over = c.in-Err.ensures.over (ap Err stop.0) (versions_behind depth (take i cs)) c.loop-index.invariant.trees in
+    sym c.loop-index.invariant.overflow ∙ overflow_here depth cs i (data_of k) is over ∙ ap Some stop.1
 
 pub loop-index-preserved : goal.loop-index-preserved
 loop-index-preserved c =
