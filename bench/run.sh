@@ -103,17 +103,21 @@ for depth in 12 14 16; do full_trees $depth >"$room/nearly full trees at depth $
 coarsened_trees 16 'const 5' 16 1 >"$room/full trees coarsened to the root"
 coarsened_trees 16 'ramp 0 1' 1 24 >"$room/a full tree coarsened, all keys stay"
 
-# The wall time of one run of a program with a word, in microseconds.
+# The wall time of one run of a program with its words on a job, in microseconds.
 micros() {
-    local from=$EPOCHREALTIME
-    "$1" "$2" <"$3" >/dev/null || true
-    local to=$EPOCHREALTIME
+    local job=$1 from to
+    shift
+    from=$EPOCHREALTIME
+    "$@" <"$job" >/dev/null || true
+    to=$EPOCHREALTIME
     echo $((${to/./} - ${from/./}))
 }
 
 # The most memory that one run had, in KB.
 peak() {
-    "$stopwatch" -q -f '%M' -o "$room/peak" "$1" "$2" <"$3" >/dev/null || true
+    local job=$1
+    shift
+    "$stopwatch" -q -f '%M' -o "$room/peak" "$@" <"$job" >/dev/null || true
     cat "$room/peak"
 }
 
@@ -128,38 +132,63 @@ compare() {
     cmp -s "$room/ours" "$room/theirs" || fail "$name: the two programs write different bytes"
 }
 
-# One row: the job, its output, and times and memory of both, whose runs take turns.
-measure() {
-    local yardstick=$1 word=$2 name=$3 i
-    local job=$room/$name
-    compare "$yardstick" "$word" "$name"
-    : >"$room/world-time"; : >"$room/plain-time"; : >"$room/world-peak"; : >"$room/plain-peak"
+# One row: the job, the output in `ours`, and times and memory of the programs `first` and `second`, whose runs take turns.
+row() {
+    local name=$1 job=$room/$1 i
+    : >"$room/first-time"; : >"$room/second-time"; : >"$room/first-peak"; : >"$room/second-peak"
     for ((i = 0; i < runs; i++)); do
-        micros "$world" "$word" "$job" >>"$room/world-time"
-        micros "$yardstick" run "$job" >>"$room/plain-time"
-        peak "$world" "$word" "$job" >>"$room/world-peak"
-        peak "$yardstick" run "$job" >>"$room/plain-peak"
+        micros "$job" "${first[@]}" >>"$room/first-time"
+        micros "$job" "${second[@]}" >>"$room/second-time"
+        peak "$job" "${first[@]}" >>"$room/first-peak"
+        peak "$job" "${second[@]}" >>"$room/second-peak"
     done
     awk -v name="$name" -v bytes="$(wc -c <"$room/ours")" \
-        -v a="$(least "$room/world-time")" -v b="$(least "$room/plain-time")" \
-        -v c="$(least "$room/world-peak")" -v d="$(least "$room/plain-peak")" \
+        -v a="$(least "$room/first-time")" -v b="$(least "$room/second-time")" \
+        -v c="$(least "$room/first-peak")" -v d="$(least "$room/second-peak")" \
         'BEGIN { printf "| %s | %d | %.4f | %.4f | %.2f | %d | %d | %.2f |\n", name, bytes, a / 1e6, b / 1e6, a / b, c, d, c / d }'
 }
 
+# A job beside a yardstick.
+measure() {
+    local yardstick=$1 word=$2 name=$3
+    compare "$yardstick" "$word" "$name"
+    first=("$world" "$word")
+    second=("$yardstick" run)
+    row "$name"
+}
+
+# A job with receipts beside the same without them. The text is the same but for the lines of receipts.
+measure_receipts() {
+    local name=$1
+    first=("$world" serial --ranks 16 --map level --receipts)
+    second=("$world" serial)
+    "${first[@]}" <"$room/$name" >"$room/ours" || fail "$name: status $? with receipts"
+    "${second[@]}" <"$room/$name" >"$room/theirs" || fail "$name: status $? without receipts"
+    grep -q '^end messages ' "$room/ours" || fail "$name: there are no receipts"
+    grep -v -e '^fence ' -e '^end ' "$room/ours" | cmp -s - "$room/theirs" || fail "$name: the two texts differ"
+    row "$name"
+}
+
 heads() {
-    echo "| job | bytes written | world, s | $1, s | ratio | world, KB | $1, KB | ratio |"
+    echo "| job | bytes written | $1, s | $2, s | ratio | $1, KB | $2, KB | ratio |"
     echo '|---|---|---|---|---|---|---|---|'
 }
 
 printf 'least of %s runs, %s processors, %s, %s\n\n' "$runs" "$(nproc)" "$(rt version)" "$(rustc --version)"
-heads plain
+heads world plain
 for name in 'full tree, 31 prints' 'full tree, 1 print' '31 full trees, no print' 'small tree at depth 16' \
     'comment of 1 MiB' '512 commands, 1 MiB' 'one-letter words, 1 MiB' 'one byte too long'; do
     measure "$plain" run "$name"
 done
+echo
+heads 'with receipts' 'without'
+for name in '31 full trees, no print' 'nearly full trees at depth 16' 'full trees coarsened to the root' \
+    'a full tree coarsened, all keys stay'; do
+    measure_receipts "$name"
+done
 [ -n "$serial" ] || exit 0
 echo
-heads serial
+heads world serial
 for name in "nearly full trees at depth "{12,14,16} 'full trees coarsened to the root' 'a full tree coarsened, all keys stay'; do
     measure "$serial" serial "$name"
 done
