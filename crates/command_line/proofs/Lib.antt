@@ -2,3 +2,4 @@ pub mod RuleLemmas
 pub mod SettingLemmas
 pub mod WalkLemmas
 pub mod MatchLemmas
+pub mod RequestLemmas

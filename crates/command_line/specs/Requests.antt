@@ -1,9 +1,9 @@
 -- What the words of a command line ask for.
-use Rattle.std.specs.Prelude.{List, [], ◌∷◌, Option, Some, None, codes, option_and_then, if◌then◌else◌}
+use Rattle.std.specs.Prelude.{ℕ, ◌≤◌, Bool, ◌&&◌, List, [], ◌∷◌, Option, Some, None, is_some, codes, option_and_then, ⊤, if◌then◌else◌}
 use Rattle.std.specs.Option.{option_map}
 use Rattle.std.specs.Str.{bytes_eq}
 use Rattle.command_line.specs.Settings.{Word, Form, Setting, read_settings, value_of, has}
-use Rattle.command_line.specs.Values.{ranks_of, map_of, number_of}
+use Rattle.command_line.specs.Values.{ranks_of, workers_of, map_of, number_of, max_ranks}
 use Rattle.command_line.specs.declared.request.Request.{Request}
 use Rattle.command_line.specs.declared.request.Request.TheVariants.{Run, Serial, Check, BigJob}
 
@@ -16,13 +16,24 @@ serial_request settings =
     option_and_then (λ ranks. option_map (λ map. Serial ranks map (has serial_form (codes "receipts") settings))
     (map_of (value_of serial_form (codes "map") settings))) (ranks_of (value_of serial_form (codes "ranks") settings))
 
--- `big N --job`
+-- `big N [--ranks N] [--workers N] [--map M] [--receipts] --job`
 abbrev pub big_form : Form
-big_form = record { options = []; flags = codes "job" ∷ []; word = Some (codes "number") }
+big_form = record {
+  options = codes "ranks" ∷ codes "workers" ∷ codes "map" ∷ [];
+  flags = codes "receipts" ∷ codes "job" ∷ [];
+  word = Some (codes "number");
+}
+
+-- the options of a run have values; the text of a job doesn't depend on them
+abbrev pub has_run_values : List Setting → Bool
+has_run_values settings =
+    is_some (ranks_of (value_of big_form (codes "ranks") settings))
+    && is_some (workers_of (value_of big_form (codes "workers") settings))
+    && is_some (map_of (value_of big_form (codes "map") settings))
 
 abbrev pub big_request : List Setting → Option Request
 big_request settings =
-    if has big_form (codes "job") settings then option_map BigJob (number_of (value_of big_form (codes "number") settings)) else None
+    if has big_form (codes "job") settings && has_run_values settings then option_map BigJob (number_of (value_of big_form (codes "number") settings)) else None
 
 -- a command that takes nothing
 abbrev pub alone : Request → List Word → Option Request
@@ -42,3 +53,10 @@ command_request command rest =
 abbrev pub request_of : List Word → Option Request
 request_of [] = None
 request_of (command ∷ rest) = command_request command rest
+
+-- a request has 1 to 16 ranks, where it has ranks
+abbrev pub HasRanks : Request → Type 0
+HasRanks (Serial ranks map receipts) = (1 ≤ ranks) × (ranks ≤ max_ranks)
+HasRanks Run = ⊤
+HasRanks Check = ⊤
+HasRanks (BigJob number) = ⊤

@@ -23,6 +23,14 @@ abbrev pub ranks_of : Option (List ℕ) → Option ℕ
 ranks_of None = Some 1
 ranks_of (Some text) = number_in 1 max_ranks text
 
+-- the number of workers of each rank, which is 0 where it isn't said
+abbrev pub max_workers : ℕ
+max_workers = 4
+
+abbrev pub workers_of : Option (List ℕ) → Option ℕ
+workers_of None = Some 0
+workers_of (Some text) = number_in 0 max_workers text
+
 -- the owner map, which is `block` where it isn't said
 abbrev pub map_of : Option (List ℕ) → Option OwnerMap
 map_of None = Some Block

@@ -59,3 +59,13 @@ fn numbers_of_big()
     ensures no_number { request_of (codes "big" ∷ codes "--job" ∷ []) ≡ None }
     ensures no_flag { request_of (codes "big" ∷ codes "7" ∷ []) ≡ None }
 {}
+
+/// The options of a run may stand with `--job`, where their values are of the right kind.
+fn options_of_big()
+    ensures all { request_of (codes "big" ∷ codes "--ranks" ∷ codes "15" ∷ codes "7" ∷ codes "--job" ∷ codes "--workers=4" ∷ codes "--map=level" ∷ codes "--receipts" ∷ [])
+        ≡ Some (BigJob 7) }
+    ensures too_many { request_of (codes "big" ∷ codes "7" ∷ codes "--workers=5" ∷ codes "--job" ∷ []) ≡ None }
+    ensures no_ranks { request_of (codes "big" ∷ codes "7" ∷ codes "--ranks=0" ∷ codes "--job" ∷ []) ≡ None }
+    ensures no_map { request_of (codes "big" ∷ codes "7" ∷ codes "--map=Block" ∷ codes "--job" ∷ []) ≡ None }
+    ensures no_flag { request_of (codes "big" ∷ codes "7" ∷ codes "--ranks=2" ∷ codes "--receipts" ∷ []) ≡ None }
+{}

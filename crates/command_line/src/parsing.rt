@@ -61,6 +61,10 @@ pub fn big_command<'a>(alloc: Global) -> Result<Command<'a>, AllocError>
     ensures { IfOk result (λ command. app_of command ≡ command_of (codes "big") big_form) }
 {
     let command = bare(alloc, "big")
+        .arg(option(alloc, "ranks"))?
+        .arg(option(alloc, "workers"))?
+        .arg(option(alloc, "map"))?
+        .arg(flag(alloc, "receipts"))?
         .arg(flag(alloc, "job"))?
         .arg(word(alloc, "number"))?;
     Ok(command)

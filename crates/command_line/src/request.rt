@@ -1,10 +1,10 @@
 //! What the words of a command line ask for.
-ghost use Rattle.std.specs.Prelude.{◌≡◌, IfOk, List, map, option_and_then, option_map, string_bytes};
+ghost use Rattle.std.specs.Prelude.{◌≡◌, IfOk, IfSome, List, map, option_and_then, option_map, string_bytes};
 ghost use Rattle.std.specs.Str.{bytes_eq};
 ghost use Rattle.command_line.specs.Parsing.{HasSettings};
-ghost use Rattle.command_line.specs.Requests.{alone, big_form, big_request, command_request, request_of, serial_form, serial_request};
+ghost use Rattle.command_line.specs.Requests.{HasRanks, alone, big_form, big_request, command_request, has_run_values, request_of, serial_form, serial_request};
 ghost use Rattle.command_line.specs.Settings.{Word, read_settings};
-ghost use Rattle.command_line.specs.Values.{map_of, max_number, number_in, number_of, ranks_of};
+ghost use Rattle.command_line.specs.Values.{map_of, max_number, number_in, number_of, ranks_of, workers_of};
 
 use crate::parsing::{big_command, matches_of, serial_command};
 use clap::ArgMatches;
@@ -31,7 +31,7 @@ pub enum Request {
     /// `check`: how many commands and trees that job has.
     Check,
 
-    /// `big` with `--job`: the text of the generated job of a number.
+    /// `big` with `--job`: the text of the generated job of a number, whatever the options of a run are.
     BigJob {
         /// The number.
         number: u32,
@@ -66,6 +66,16 @@ fn ranks_of(text: Option<&str>) -> Option<u32>
     }
 }
 
+// The number of workers that an option says.
+fn workers_of(text: Option<&str>) -> Option<u32>
+    ensures { result ≡ workers_of (option_map (λ t. t.now) text.entry) }
+{
+    match text {
+        None => Some(0),
+        Some(text) => number_in(0, 4, text),
+    }
+}
+
 // The owner map that an option says.
 fn map_of(text: Option<&str>) -> Option<OwnerMap>
     ensures { result ≡ map_of (option_map (λ t. t.now) text.entry) }
@@ -97,11 +107,24 @@ fn serial_request(matches: &ArgMatches<'_>) -> Option<Request>
     })
 }
 
+// Whether the options of a run have values that they may have, where they are given.
+fn has_run_values(matches: &ArgMatches<'_>) -> bool
+    ensures { (words : List Word) → (s : HasSettings big_form words matches.now) → result ≡ has_run_values s.settings }
+{
+    let ranks = ranks_of(matches.get_str("ranks"));
+    let workers = workers_of(matches.get_str("workers"));
+    let map = map_of(matches.get_str("map"));
+    ranks.is_some() && workers.is_some() && map.is_some()
+}
+
 // What the options of `big` ask for.
 fn big_request(matches: &ArgMatches<'_>) -> Option<Request>
     ensures { (words : List Word) → (s : HasSettings big_form words matches.now) → result ≡ big_request s.settings }
 {
     if !matches.get_flag("job") {
+        return None;
+    }
+    if !has_run_values(matches) {
         return None;
     }
     let number = number_of(matches.get_str("number"))?;
@@ -170,11 +193,13 @@ fn command_request(
 /// What the words after the program's name ask for.
 ///
 /// None exactly where they are in none of the forms `run`, `serial [--ranks N] [--map M] [--receipts]`, `check` and
-/// `big N --job`. Options stand in any order, each at most once, as `--name value` or `--name=value`; a flag has no value. A
-/// number is 1 to 10 decimal digits: N of `--ranks` is 1 to 16, and N of `big` is at most 4,294,967,295. M is `block`,
-/// `spread` or `level`. `OutOfMemory` where there is no memory left.
+/// `big N [--ranks N] [--workers N] [--map M] [--receipts] --job`. Options stand in any order, each at most once, as
+/// `--name value` or `--name=value`; a flag has no value. N of `big` stands before, between or after its options. A number is
+/// 1 to 10 decimal digits: N of `--ranks` is 1 to 16, N of `--workers` is at most 4, and N of `big` is at most 4,294,967,295.
+/// M is `block`, `spread` or `level`. `OutOfMemory` where there is no memory left.
 pub fn request_of(alloc: Global, words: &[String]) -> Result<Option<Request>, AllocError>
-    ensures { IfOk result (λ request. request ≡ request_of (map string_bytes words.now)) }
+    ensures request { IfOk result (λ request. request ≡ request_of (map string_bytes words.now)) }
+    ensures ranks { IfOk result (λ request. IfSome request HasRanks) }
 {
     match words {
         [command, rest @ ..] => command_request(alloc, command.as_str(), rest),

@@ -25,7 +25,7 @@ fn serial(ranks: u32, map: OwnerMap, receipts: bool) -> Option<Request> {
 #[test]
 fn each_form(rt: HostRuntime) -> Result<(), Fail> {
     let number = u32::MAX;
-    let cases: [(&str, Option<Request>); 14] = [
+    let cases: [(&str, Option<Request>); 16] = [
         ("run", Some(Request::Run)),
         ("check", Some(Request::Check)),
         ("serial", serial(1, OwnerMap::Block, false)),
@@ -52,6 +52,14 @@ fn each_form(rt: HostRuntime) -> Result<(), Fail> {
         ("big --job 7", Some(Request::BigJob { number: 7 })),
         ("big 4294967295 --job", Some(Request::BigJob { number })),
         ("big --job 0000000000", Some(Request::BigJob { number: 0 })),
+        (
+            "big --ranks 15 4294967295 --job --workers=4",
+            Some(Request::BigJob { number }),
+        ),
+        (
+            "big 7 --receipts --map level --job --ranks=0000000016",
+            Some(Request::BigJob { number: 7 }),
+        ),
     ];
     for (line, request) in cases {
         assert_eq!(rt; asked(rt.alloc(), line)?, request, "{line}");
@@ -111,7 +119,16 @@ fn words_in_no_form(rt: HostRuntime) -> Result<(), Fail> {
         "big -7 --job",
         "big 4294967296 --job",
         "big 7 --job --",
-        "big 7 --job --receipts",
+        "big 7 --receipts",
+        "big 7 --ranks 2 --map=level",
+        "big 7 --job --ranks 17",
+        "big 7 --job --ranks 2 --ranks=2",
+        "big 7 --job --workers 5",
+        "big 7 --job --workers",
+        "big 7 --job --map=",
+        "big 7 --job --receipts --receipts",
+        "big 7 --job --trace",
+        "serial --workers 2",
         "audit",
     ];
     for line in cases {
