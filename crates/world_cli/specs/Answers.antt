@@ -1,15 +1,23 @@
 -- What the program answers: a status, and the text that goes with it.
-use Rattle.std.specs.Prelude.{◌≡◌, ℕ, ◌≤◌, ◌⊎◌, nat_lt, List, [], ◌++◌, length, take, Option, Some, Result, Ok, Err, MatchOption, is_none, ⊤, codes, decimal, if◌then◌else◌}
+use Rattle.std.specs.Prelude.{◌≡◌, ℕ, ◌+◌, ◌≤◌, ◌⊎◌, Bool, true, false, nat_lt, List, [], ◌++◌, length, position, take, Option, Some, None, Result, Ok, Err, MatchOption, is_none, ⊤, codes, decimal, if◌then◌else◌}
+use Rattle.std.specs.Option.{option_map, option_map_or}
 use Rattle.std.specs.Io.KnownBytes.{Appends}
 use Rattle.outside.specs.Causes.{Rose}
+use Rattle.tree_model.specs.Commands.{Command}
+use Rattle.tree_model.specs.Commands.Command.{Coarsen, Size}
 use Rattle.tree_model.specs.Jobs.{JobData, job_text, first_overflow}
+use Rattle.tree_model.specs.Receipts.{text_of}
+use Rattle.tree_model.specs.Totals.{Distribution}
+use Rattle.tree_totals.specs.Counts.{by_map}
+use Rattle.job_data.specs.Checks.{trees_behind}
+use Rattle.job_lang.specs.Canonical.{canonical_text}
 use Rattle.job_lang.specs.declared.JobFault.{JobFault}
 use Rattle.job_lang.specs.Faults.{fault_line}
-use Rattle.job_data.specs.Checks.{trees_behind}
 use Rattle.job_lang.specs.Reading.{reading_of}
-use Rattle.world_cli.specs.Requests.{request_of}
-use Rattle.world_cli.specs.declared.request.Request.{Request}
-use Rattle.world_cli.specs.declared.request.Request.TheVariants.{Run, Serial, Check}
+use Rattle.big_job.specs.Generator.{big_job}
+use Rattle.command_line.specs.Requests.{request_of}
+use Rattle.command_line.specs.declared.request.Request.{Request}
+use Rattle.command_line.specs.declared.request.Request.TheVariants.{Run, Serial, Check, BigJob}
 
 -- the statuses
 abbrev pub done : ℕ
@@ -48,9 +56,32 @@ pub record Answer : Type 0 where
   pub status : ℕ
   pub text : List ℕ
 
--- the answer to a job: its text, and whether a command overflows
-abbrev pub job_answer : JobData → Answer
-job_answer job = record { status = if is_none (first_overflow job) then done else overflow; text = job_text job }
+-- the status of a job that is done
+abbrev pub job_status : JobData → ℕ
+job_status job = if is_none (first_overflow job) then done else overflow
+
+-- the answer to a job that is done serially: its text, with receipts or without
+abbrev pub serial_job_answer : Distribution → Bool → JobData → Answer
+serial_job_answer d receipts job = record { status = job_status job; text = text_of d receipts job }
+
+-- what `run` can't carry out yet, and the first such command of a job; commands are numbered from 1
+abbrev pub is_unbuilt : Command → Bool
+is_unbuilt (Coarsen name) = true
+is_unbuilt (Size name) = true
+is_unbuilt command = false
+
+abbrev pub first_unbuilt : JobData → Option ℕ
+first_unbuilt job = option_map (λ index. index + 1) (position is_unbuilt job.commands)
+
+abbrev pub unbuilt_line : ℕ → List ℕ
+unbuilt_line number = codes "fault command " ++ decimal number ++ codes " unbuilt\n"
+
+abbrev pub unbuilt_answer : ℕ → Answer
+unbuilt_answer number = record { status = job_fault; text = unbuilt_line number }
+
+-- the answer to a job that is run: the line of its first command that can't be carried out yet, or its text
+abbrev pub run_job_answer : JobData → Answer
+run_job_answer job = option_map_or unbuilt_answer (first_unbuilt job) (record { status = job_status job; text = job_text job })
 
 -- the answer to a job that is only read: how many commands it has, fences among them, and how many trees
 abbrev pub check_answer : JobData → Answer
@@ -59,27 +90,35 @@ check_answer job = record {
   text = codes "ok commands " ++ decimal (length job.commands) ++ codes " trees " ++ decimal (trees_behind [] job.commands) ++ codes "\n";
 }
 
--- an answer to a job, or the answer to its fault
-abbrev pub reading_answer : (JobData → Answer) → Result JobData JobFault → Answer
+-- the job that the bytes of an input are, or the line that says why they are none
+abbrev pub job_or_line : Result JobData JobFault → Result JobData (List ℕ)
+job_or_line (Ok job) = Ok job
+job_or_line (Err fault) = Err (fault_line fault ++ codes "\n")
+
+abbrev pub input_reading : List ℕ → Result JobData (List ℕ)
+input_reading bytes = if nat_lt max_input (length bytes) then Err (codes "fault too long\n") else job_or_line (reading_of bytes)
+
+-- the answer to an input: to the job, or the line
+abbrev pub reading_answer : (JobData → Answer) → Result JobData (List ℕ) → Answer
 reading_answer answer (Ok job) = answer job
-reading_answer answer (Err fault) = record { status = job_fault; text = fault_line fault ++ codes "\n" }
+reading_answer answer (Err line) = record { status = job_fault; text = line }
 
--- the answer to the bytes of a job, which may be too many
-abbrev pub bytes_answer : (JobData → Answer) → List ℕ → Answer
-bytes_answer answer bytes =
-    if nat_lt max_input (length bytes) then record { status = job_fault; text = codes "fault too long\n" } else reading_answer answer (reading_of bytes)
+abbrev pub input_answer : (JobData → Answer) → List ℕ → Answer
+input_answer answer bytes = reading_answer answer (input_reading bytes)
 
--- the answer to what the words ask for; `run` and `serial` have one text
-abbrev pub serial_answer : List ℕ → Answer
-serial_answer bytes = bytes_answer job_answer bytes
-
-abbrev pub checked_answer : List ℕ → Answer
-checked_answer bytes = bytes_answer check_answer bytes
-
+-- the answer to a request on the bytes of an input; a generated job needs none
 abbrev pub answer_to : Request → List ℕ → Answer
-answer_to Run bytes = serial_answer bytes
-answer_to Serial bytes = serial_answer bytes
-answer_to Check bytes = checked_answer bytes
+answer_to Run bytes = input_answer run_job_answer bytes
+answer_to (Serial ranks map receipts) bytes = input_answer (serial_job_answer (by_map map ranks) receipts) bytes
+answer_to Check bytes = input_answer check_answer bytes
+answer_to (BigJob number) bytes = record { status = done; text = canonical_text (big_job number) }
+
+-- whether a request has an input
+abbrev pub has_input : Request → Bool
+has_input (BigJob number) = false
+has_input Run = true
+has_input (Serial ranks map receipts) = true
+has_input Check = true
 
 -- these bytes are what a source told as left, where it tells
 abbrev pub Tells : Option (List ℕ) → List ℕ → Type 0

@@ -3,12 +3,18 @@
 
 mod answer;
 mod examples;
+mod job_answers;
+#[cfg(test)]
+mod option_tests;
 mod program;
-mod request;
+mod reading;
+mod requests;
 mod status;
 #[cfg(test)]
 mod tests;
+mod texts;
 
-pub use answer::{Answer, check_text, serial_text};
+pub use answer::Answer;
 pub use program::world_main;
 pub use status::Status;
+pub use texts::{check_text, run_text, serial_text};

@@ -8,12 +8,12 @@ use outside::{MemSink, MemSource};
 use std::alloc::{AllocError, Global};
 use std::test::Fail;
 
-const USAGE: &[u8] = b"usage: world run, serial, check, audit or big N, with options\n";
+pub(crate) const USAGE: &[u8] = b"usage: world run, serial, check, audit or big N, with options\n";
 
 // The job of a ramp at depth 2, printed, and its text.
-const RAMP: &[u8] = b"job 1 depth 2\nproject f ramp 0 1 level 0 tol 0\nprint f\n";
+pub(crate) const RAMP: &[u8] = b"job 1 depth 2\nproject f ramp 0 1 level 0 tol 0\nprint f\n";
 
-const RAMP_TEXT: &[u8] = b"tree f reconstructed\n2 0 0\n2 1 1\n2 2 2\n2 3 3\n";
+pub(crate) const RAMP_TEXT: &[u8] = b"tree f reconstructed\n2 0 0\n2 1 1\n2 2 2\n2 3 3\n";
 
 // The words of a command line.
 fn words_of(alloc: Global, words: &[&str]) -> Result<Vec<String>, AllocError> {
@@ -26,13 +26,17 @@ fn words_of(alloc: Global, words: &[&str]) -> Result<Vec<String>, AllocError> {
 
 // A status, and what was written.
 #[derive(Drop)]
-struct Outcome {
-    status: u8,
-    written: Vec<u8>,
+pub(crate) struct Outcome {
+    pub(crate) status: u8,
+    pub(crate) written: Vec<u8>,
 }
 
 // Runs the program over memory.
-fn run_over_memory(alloc: Global, words: &[&str], input: &[u8]) -> Result<Outcome, AllocError> {
+pub(crate) fn run_over_memory(
+    alloc: Global,
+    words: &[&str],
+    input: &[u8],
+) -> Result<Outcome, AllocError> {
     let words = words_of(alloc, words)?;
     let mut source = MemSource::new(Vec::from_slice(alloc, input)?, 4096, Vec::new(alloc));
     let mut sink = MemSink::new(alloc, 4096, Vec::new(alloc));
@@ -91,7 +95,7 @@ fn jobs_and_faults(rt: HostRuntime) -> Result<(), Fail> {
 }
 
 // The first two lines of jobs on a ramp over four cells.
-const RAMP_LINES: &[u8] = b"job 1 depth 2\nproject f ramp 0 1 level 0 tol 0\n";
+pub(crate) const RAMP_LINES: &[u8] = b"job 1 depth 2\nproject f ramp 0 1 level 0 tol 0\n";
 
 // The ramp's tree in its compressed form.
 const COMPRESSED_TEXT: &[u8] = b"tree f compressed 6\n0 0 -4\n1 0 -1\n1 1 -1\n";
@@ -110,13 +114,22 @@ fn canonical_job(rt: HostRuntime) -> Result<(), Fail> {
     Ok(())
 }
 
-// Runs the program with the word `serial` over memory that has these parts.
-fn serial_of(alloc: Global, parts: &[&[u8]]) -> Result<Outcome, AllocError> {
+// Runs the program over memory that has these parts.
+pub(crate) fn run_over_parts(
+    alloc: Global,
+    words: &[&str],
+    parts: &[&[u8]],
+) -> Result<Outcome, AllocError> {
     let mut input = Vec::new(alloc);
     for part in parts {
         input.extend_from_slice(*part)?;
     }
-    run_over_memory(alloc, &["serial"], &input)
+    run_over_memory(alloc, words, &input)
+}
+
+// The same with the word `serial`.
+fn serial_of(alloc: Global, parts: &[&[u8]]) -> Result<Outcome, AllocError> {
+    run_over_parts(alloc, &["serial"], parts)
 }
 
 #[test]
@@ -252,9 +265,23 @@ fn too_much_input(rt: HostRuntime) -> Result<(), Fail> {
 
 #[test]
 fn other_words(rt: HostRuntime) -> Result<(), Fail> {
-    let cases: [&[&str]; 8] = [
+    let cases: [&[&str]; 22] = [
         &[],
         &["walk"],
+        &["run", "--ranks", "17"],
+        &["run", "--ranks", "2", "--ranks", "2"],
+        &["run", "--ranks", "2"],
+        &["run", "--workers=1"],
+        &["run", "--receipts"],
+        &["serial", "--ranks", "17"],
+        &["serial", "--ranks=2", "--ranks", "2"],
+        &["serial", "--receipts", "--receipts"],
+        &["serial", "--map", "blocks"],
+        &["serial", "--help"],
+        &["serial", "--"],
+        &["big", "7"],
+        &["big", "7", "--receipts", "--ranks=2"],
+        &["big", "4294967296", "--job"],
         &["run", "run"],
         &["Run"],
         &["run "],

@@ -18,8 +18,8 @@ finished_is_status : {P Q : Type 0} (result : ℕ) (s : Status) → ((result ≡
 finished_is_status result s (inl whole) = subst IsStatus (sym whole.0) (code_is_status s)
 finished_is_status result s (inr cut) = subst IsStatus (sym cut.0) (code_is_status WriteFault)
 
-pub returns-in_default-clause-known : goal.returns-in_default-clause-known
-returns-in_default-clause-known g c = finished_is_status c.finish.result Usage c.finish.ensures.end
+pub returns-in-Ok-None-clause-known : goal.returns-in-Ok-None-clause-known
+returns-in-Ok-None-clause-known g c = finished_is_status c.finish.result Usage c.finish.ensures.end
 
 pub returns-in-Ok-clause-known : goal.returns-in-Ok-clause-known
 returns-in-Ok-clause-known g c = finished_is_status c.finish-in-Ok.result c.in-Ok.answer.status c.finish-in-Ok.ensures.end

@@ -1,7 +1,7 @@
 use Rattle.std.proofs.Common.{◌≡◌, ℕ, List, [], length, ◌++◌, ap, append_assoc}
 use Rattle.std.specs.Prelude.{codes, decimal}
 use Rattle.job_data.specs.Checks.{trees_behind}
-use Rattle.world_cli.proofs.answer.check_job.Goals as goal
+use Rattle.world_cli.proofs.job_answers.check_job.Goals as goal
 
 pieces : (a b c d : List ℕ) → a ++ (b ++ (c ++ d)) ≡ ((a ++ b) ++ c) ++ d
 pieces a b c d = simp append_assoc
