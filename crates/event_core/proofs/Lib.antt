@@ -1,2 +1,3 @@
 pub mod BookPartLemmas
 pub mod BookExampleLemmas
+pub mod WrittenPartLemmas

@@ -1,5 +1,5 @@
 -- Books: what each lane of a run wrote, and which books are lawful.
-use Rattle.std.specs.Prelude.{◌≡◌, ◌⊎◌, ℕ, ◌<◌, ◌≤◌, true, false, if◌then◌else◌, List, [], ◌∷◌, reverse, length, All, AllPairs, Some, slice_get}
+use Rattle.std.specs.Prelude.{◌≡◌, ◌⊎◌, ℕ, zero, suc, ◌<◌, ◌≤◌, Bool, true, false, if◌then◌else◌, List, [], ◌∷◌, ◌++◌, reverse, length, All, AllPairs, Some, slice_get}
 use Rattle.app_core.specs.Commands.{IsRankCount}
 use Rattle.app_core.specs.declared.label.Label.{Label}
 use Rattle.app_core.specs.declared.outline.Outline.{Outline}
@@ -74,3 +74,35 @@ abbrev pub NumbersAreApart : Type 0
 NumbersAreApart =
     (b : BookData) → IsLawful b → (l m : LaneName) (i j : ℕ) (d e : Event) (k : Kind) (n : ℕ) → StandsIn b l i d → StandsIn b m j e
     → number k d ≡ Some n → number k e ≡ Some n → l.rank ≡ m.rank → (l ≡ m) × (i ≡ j)
+
+-- the lanes of so many hands or bins of a rank, by number from k on; and of so many ranks, by rank from r on
+abbrev pub lanes_from : Bool → ℕ → ℕ → ℕ → List LaneName
+lanes_from b r k zero = []
+lanes_from b r k (suc n) = record { rank = r; bin = b; number = k } ∷ lanes_from b r (suc k) n
+
+abbrev pub lanes_of_ranks : Bool → ℕ → ℕ → ℕ → List LaneName
+lanes_of_ranks b each r zero = []
+lanes_of_ranks b each r (suc n) = lanes_from b r 0 each ++ lanes_of_ranks b each (suc r) n
+
+-- all lanes in the order of a book
+abbrev pub lanes_in_order : ℕ → ℕ → List LaneName
+lanes_in_order ranks workers = lanes_of_ranks false (suc workers) 0 ranks ++ lanes_of_ranks true 16 0 ranks
+
+-- a lane with these events, the newest first, where there are any; and the parts of some lanes in a list
+abbrev pub part_with : LaneName → List Event → List PartData
+part_with l [] = []
+part_with l (e ∷ es) = record { lane = l; events = reverse (e ∷ es) } ∷ []
+
+abbrev pub parts_in : List Mark → List LaneName → List PartData
+parts_in log [] = []
+parts_in log (l ∷ ls) = part_with l (part l log) ++ parts_in log ls
+
+-- the parts of all lanes in a list
+abbrev pub book_of : ℕ → ℕ → List Mark → BookData
+book_of ranks workers log = record { ranks = ranks; workers = workers; parts = parts_in log (lanes_in_order ranks workers) }
+
+-- the parts of a legal list are those of a book
+abbrev pub PartsAreOfABook : Type 0
+PartsAreOfABook =
+    (ranks workers : ℕ) (log : List Mark) → IsRankCount ranks → workers ≤ 4 → Legal ranks workers log
+    → IsBook (book_of ranks workers log) × HasParts log (book_of ranks workers log)

@@ -20,5 +20,5 @@ pub use event_lists::{
     nothing_is_open_between_the_passes, receipts_are_quiet,
 };
 pub use examples::{books_are_judged, orders_of_parts_are_judged};
-pub use laws::takings_and_numbers_of_a_lawful_book_are_apart;
+pub use laws::{parts_of_a_legal_list_are_a_book, takings_and_numbers_of_a_lawful_book_are_apart};
 pub use list::EventList;

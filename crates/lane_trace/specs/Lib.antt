@@ -1,3 +1,4 @@
 pub mod Traces
 pub mod StoredEvents
 pub mod Examples
+pub mod Records

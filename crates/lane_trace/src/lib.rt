@@ -6,6 +6,7 @@
 #![tactic(auto)]
 
 mod examples;
+mod record;
 mod room;
 mod stored_event;
 #[cfg(test)]
@@ -13,6 +14,7 @@ mod tests;
 mod trace;
 
 pub use examples::{needs_and_rows_are_counted, room_is_judged};
+pub use record::{LaneRecord, ReserveError};
 pub use room::{Room, any_event_fits};
 /// No memory is left for what a call has to make.
 pub use std::alloc::AllocError as OutOfMemory;

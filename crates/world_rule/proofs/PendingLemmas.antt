@@ -20,7 +20,7 @@ use Rattle.world_rule.specs.declared.view.Load.TheVariants.{OfMessage, OfTask}
 use Rattle.world_rule.specs.declared.view.Owed.{Owed}
 use Rattle.world_rule.specs.declared.view.Progress.{Progress}
 use Rattle.world_rule.specs.declared.view.View.{View}
-use Rattle.world_rule.specs.Owing.{same_effect, same_pending, settles, is_settled, owed, made_by, Made}
+use Rattle.world_rule.specs.Owing.{same_effect, same_pending, settles, is_settled, owed, made_by, Made, IsCounted, IsFrom, ComesFrom}
 use Rattle.world_rule.specs.Views.{own_part, own_events, progress_after, seeing, after_event}
 
 -- what is gone
@@ -164,3 +164,11 @@ bears (Some p) q e j g = let y : p ≡ q = cc in subst (λ (z : Owed). owner_wit
 pub appended_view : (v : View) (l : LaneName) (e : Event) (mine : List Event) (p : Option Progress) (log : List Mark) → own_events v.parts ≡ mine → progress_after e v.progress ≡ p
     → record v { parts = own_part l (e ∷ mine) ∷ []; seen = log; told = []; owes = made_by l e; progress = p } ≡ seeing log (after_event l e v)
 appended_view v l e mine p log own done = λ i. record v { parts = own_part l (e ∷ sym own i) ∷ []; seen = log; told = []; owes = made_by l e; progress = sym done i }
+
+-- what is a message or a task and comes from somewhere was made, and what was made comes from there
+pub from_made : (o : Owed) (log : List Mark) (p : Pending) → IsCounted p → IsFrom p o log → Made o log
+from_made o log (Counted c) is from = from
+from_made o log (Drawn f) is from = absurd is
+
+pub made_from : (o : Owed) (log : List Mark) → Made o log → ComesFrom o log
+made_from o log made = let k = makes_of made.0 made.1 o made.2 in subst (λ (p : Pending). IsFrom p o log) (sym k.1) made

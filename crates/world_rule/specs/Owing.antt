@@ -1,6 +1,7 @@
 -- What a seat may owe: a message or task that was counted and not yet taken, or an effect that was drawn and not yet
 -- carried out.
 use Rattle.std.specs.Prelude.{◌≡◌, ◌≤◌, ℕ, Bool, false, List, Option, Some, None}
+use Rattle.app_core.specs.declared.outline.Outline.{Outline}
 use Rattle.event_lists.specs.declared.lane.LaneName.{LaneName}
 use Rattle.event_lists.specs.declared.event.Event.{Event}
 use Rattle.event_lists.specs.declared.event.Event.TheVariants.{Sent, TookMessage, TookTask, Handled, Submitted, Ran, Enter}
@@ -9,13 +10,13 @@ use Rattle.event_lists.specs.declared.mark.Item.TheVariants.{Message, Task}
 use Rattle.event_lists.specs.declared.mark.EffectName.{EffectName}
 use Rattle.event_lists.specs.declared.mark.Mark.{Mark}
 use Rattle.event_lists.specs.declared.future.Future.{Future}
-use Rattle.event_lists.specs.Events.{StandsOn, same_item, is_item, takes, is_taken}
+use Rattle.event_lists.specs.Events.{StandsOn, same_item, is_item, takes, is_taken, part, in_hand}
 use Rattle.event_lists.specs.Futures.{needs_of, times_given, IsIn}
-use Rattle.event_laws.specs.Follows.{is_effect, carried_out}
+use Rattle.event_laws.specs.Follows.{is_effect, is_own, carried_out}
 use Rattle.world_rule.specs.declared.view.Pending.{Pending}
 use Rattle.world_rule.specs.declared.view.Pending.TheVariants.{Counted, Drawn}
 use Rattle.world_rule.specs.declared.view.Load.{Load}
-use Rattle.world_rule.specs.declared.view.Load.TheVariants.{OfMessage, OfTask}
+use Rattle.world_rule.specs.declared.view.Load.TheVariants.{OfMessage, OfTask, OfEffect}
 use Rattle.world_rule.specs.declared.view.Owed.{Owed}
 
 abbrev pub same_effect : EffectName → EffectName → Bool
@@ -49,6 +50,16 @@ made_by l _ = None
 -- the message or task was sent or submitted, to this rank, with this load
 abbrev pub Made : Owed → List Mark → Type 0
 Made o log = (l : LaneName) × (e : Event) × (made_by l e ≡ Some o) × StandsOn l e log
+
+-- where what a seat owes comes from: a message or task was made; a drawn effect is a put or an erase for a bin of its
+-- task's rank, and some lane had the task in hand
+abbrev pub IsFrom : Pending → Owed → List Mark → Type 0
+IsFrom (Counted c) o log = Made o log
+IsFrom (Drawn f) o log =
+    (w : Outline) × (o.load ≡ OfEffect w) × (is_own w ≡ false) × (o.to ≡ f.rank) × ((l : LaneName) × (in_hand (part l log) ≡ Some (Task f.rank f.number)))
+
+abbrev pub ComesFrom : Owed → List Mark → Type 0
+ComesFrom o log = IsFrom o.pending o log
 
 -- it is a message or a task
 abbrev pub IsCounted : Pending → Type 0

@@ -19,16 +19,18 @@ use Rattle.world_rule.specs.Owing.{made_by}
 use Rattle.world_rule.specs.Views.{mark, progress_after}
 use Rattle.world_rule.specs.Steps.{IsUnderWay}
 
--- the words: their table, the application, and what rank 0's main does
+-- the words: their table, whether lanes keep traces, the application, and what rank 0's main does
 pub record WordsView (A : Type 0) : Type 0 where
   pub table : TableId
   pub ranks : ℕ
   pub workers : ℕ
+  pub trace : Bool
   pub app : A
   pub program : List Doing
 
 -- a lane: its table and name, its own events and how the list of all events began, both the newest first, what it owes, how
--- far its task is once it was begun, whether it set the stop word, its looks, and how many events it may still append
+-- far its task is once it was begun, whether it set the stop word, its looks, how many events it may still append, and
+-- whether it keeps a trace
 pub record LaneView : Type 0 where
   pub table : TableId
   pub name : LaneName
@@ -42,6 +44,7 @@ pub record LaneView : Type 0 where
   pub ran_looks : CountLooks
   pub submitted_looks : CountLooks
   pub spare : ℕ
+  pub kept : Bool
 
 -- a carrier: what is owed, and how the list of events began, as far as the lane knew that packed it
 pub record CarrierView : Type 0 where
@@ -81,6 +84,7 @@ pub record Grew {A : Type 0} (words : WordsView A) (may : Label → List Outline
   pub owing : new.owes ≡ made_by old.name e
   pub progress : new.progress ≡ progress_after e old.progress
   pub spare : suc new.spare ≡ old.spare
+  pub kept : new.kept ≡ old.kept
   pub same : (new.table ≡ old.table) × (new.name ≡ old.name)
   pub stop : (new.set_stop ≡ old.set_stop) × (new.saw_stop ≡ old.saw_stop) × (new.stop_looks ≡ old.stop_looks)
   pub looks : (new.ran_looks ≡ old.ran_looks) × (new.submitted_looks ≡ old.submitted_looks)

@@ -39,7 +39,7 @@ impl<A: Facts> Words<A> {
         let Carrier { seat, item } = carrier;
         self.table.shared.join_seat::<Joining>(&mut lane.seat, seat);
         self.load_event::<Brand, (), ()>(&mut lane.seat, QUIET_WORD, lane.name, (), &());
-        lane.spare -= 1;
+        lane.own.took(item);
         lane.hand = item;
     }
 }

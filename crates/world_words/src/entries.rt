@@ -78,7 +78,7 @@ impl<A: ListLaws> Words<A> {
         let Carrier { seat, item: _ } = carrier;
         self.table.shared.join_seat::<Joining>(&mut lane.seat, seat);
         self.load_event::<Brand, CellName, ()>(&mut lane.seat, QUIET_WORD, lane.name, name, &());
-        lane.spare -= 1;
+        lane.own.put(name);
     }
 
     /// The bin's lane carries out an erase that was drawn. The entry was in the bin, and no fence whose receipt the lane
@@ -100,6 +100,6 @@ impl<A: ListLaws> Words<A> {
         let Carrier { seat, item: _ } = carrier;
         self.table.shared.join_seat::<Joining>(&mut lane.seat, seat);
         self.load_event::<Brand, CellName, ()>(&mut lane.seat, QUIET_WORD, lane.name, name, &());
-        lane.spare -= 1;
+        lane.own.erased(name);
     }
 }

@@ -29,7 +29,7 @@ impl<A: Facts> Words<A> {
         ensures { Grew self.now (A.may_do self.now.app) (Enter fence) None lane.old lane.new }
     {
         self.load_event::<Brand, u32, ()>(&mut lane.seat, QUIET_WORD, lane.name, fence, &());
-        lane.spare -= 1;
+        lane.own.enter(fence);
     }
 
     // Reads a count of the lane's own rank.
@@ -48,7 +48,7 @@ impl<A: Facts> Words<A> {
             (kind, fence),
             &pass,
         );
-        lane.spare -= 1;
+        lane.own.read(kind, value, fence, pass);
         value
     }
 
@@ -105,7 +105,7 @@ impl<A: Facts> Words<A> {
         ensures { Grew self.now (A.may_do self.now.app) (Receives receipt.now) None lane.old lane.new }
     {
         self.load_event::<Brand, (), Receipt>(&mut lane.seat, QUIET_WORD, lane.name, (), receipt);
-        lane.spare -= 1;
+        lane.own.receipt(receipt);
     }
 
     /// The main of a rank leaves the fence that it is in, whose receipt it knows.
@@ -118,6 +118,6 @@ impl<A: Facts> Words<A> {
         ensures { Grew self.now (A.may_do self.now.app) (Leave fence) None lane.old lane.new }
     {
         self.load_event::<Brand, u32, ()>(&mut lane.seat, QUIET_WORD, lane.name, fence, &());
-        lane.spare -= 1;
+        lane.own.leave(fence);
     }
 }

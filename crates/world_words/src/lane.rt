@@ -1,8 +1,10 @@
 //! A lane, and what goes from one lane to another.
 ghost use Rattle.std.specs.Prelude.{◌≡◌};
+ghost use Rattle.world_rule.specs.Owing.{ComesFrom};
 
 use atomic_table::Seat;
 use event_lists::{Item, LaneName};
+use lane_trace::LaneRecord;
 use std::marker::Model;
 use world_rule::view::View;
 
@@ -16,7 +18,7 @@ pub struct Lane {
     pub(crate) name: LaneName,
     pub(crate) hand: Option<Item>,
     pub(crate) owes: Option<Item>,
-    pub(crate) spare: u64,
+    pub(crate) own: LaneRecord,
 }
 
 impl Model for Lane {
@@ -38,10 +40,11 @@ impl Model for Lane {
       saw_stop = l.seat.me.0.saw_stop;
       ran_looks = l.seat.me.0.ran_looks;
       submitted_looks = l.seat.me.0.submitted_looks;
-      spare = l.spare;
+      spare = l.own.spare;
+      kept = l.own.kept;
     } };
 
-    ghost invariant = { λ l. IsLaneSeat l.seat.table_id l.name l.hand l.owes l.spare l.seat.me };
+    ghost invariant = { λ l. IsLaneSeat l.seat.table_id l.name l.hand l.owes l.own l.seat.me };
 }
 
 impl Lane {
@@ -56,7 +59,7 @@ impl Lane {
     pub fn spare(&self) -> u64
         ensures { result ≡ self.now.spare }
     {
-        self.spare
+        self.own.spare()
     }
 }
 
@@ -76,6 +79,16 @@ impl Model for Carrier {
     ghost view = { λ c. record { table = c.seat.table_id; seen = c.seat.me.0.seen; owed = the_owed c.seat.me.0.owes } };
 
     ghost invariant = { λ c. IsCarrier c.item c.seat.me };
+}
+
+impl Carrier {
+    /// Where its load comes from: a message or task was sent or submitted, to the rank that is named, with this load; an
+    /// effect is a put or an erase of a task that a lane had in hand, at this rank.
+    pub fn comes_from(&self)
+        ensures { ComesFrom self.now.owed self.now.seen }
+    {
+        let _ = &self.seat;
+    }
 }
 
 /// A seat that carries what a lane knew.

@@ -41,7 +41,7 @@ impl<A: Facts> Words<A> {
             to,
             &parcel,
         );
-        lane.spare -= 1;
+        lane.own.sent(number, to, &parcel);
         lane.owes = Some(Item::Message { rank, number });
         number
     }
@@ -59,7 +59,7 @@ impl<A: Facts> Words<A> {
     {
         let word = 16 * lane.name.rank as usize + HANDLED;
         let number = self.add_event::<Brand, (), ()>(&mut lane.seat, word, lane.name, (), &());
-        lane.spare -= 1;
+        lane.own.ended(number, lane.hand);
         lane.hand = None;
         number
     }

@@ -1,7 +1,7 @@
 //! Tasks: they are submitted, begun, give futures their values, and run.
 ghost use Rattle.std.specs.Prelude.{◌≡◌, ℕ, ◌<◌, ◌≤◌, false, None, Some, length};
 ghost use Rattle.atomic_table.specs.Table.{Allows};
-ghost use Rattle.app_core.specs.Needs.{max_needs};
+ghost use Rattle.app_core.specs.Needs.{AreDistinct, max_needs};
 ghost use Rattle.app_core.specs.Outlines.{outlines};
 ghost use Rattle.event_lists.specs.declared.event.Event.TheVariants.{Submitted, Gave};
 ghost use Rattle.event_lists.specs.declared.event.TaskName.{TaskName};
@@ -31,7 +31,7 @@ impl<A: Facts> Words<A> {
     /// Counts a task, which the lane then owes: its number, from 0 at each rank.
     ///
     /// The task is the next start of rank 0's main, the next effect of the task in hand, or the unit that the message in
-    /// hand brought. A unit has at most 16 needs.
+    /// hand brought. A unit has at most 16 needs, none twice.
     pub fn submitted(
         &self,
         lane: &mut Lane,
@@ -42,7 +42,7 @@ impl<A: Facts> Words<A> {
         requires table { lane.old.table ≡ self.now.table }
         requires room { 0 < lane.old.spare }
         requires free { (lane.old.owes ≡ None) × (lane.old.name.bin ≡ false) }
-        requires needs { length needs.now ≤ max_needs }
+        requires needs { (length needs.now ≤ max_needs) × AreDistinct needs.now }
         requires spawn { MaySubmit lane.old.name (in_hand lane.old.mine) }
         requires dues { Dues lane.old.seen lane.old.name lane.old.mine (Submitted 0 (task_name unit needs.now due)) }
         requires outside { in_hand lane.old.mine ≡ None → fence_in lane.old.mine ≡ None }
@@ -58,7 +58,7 @@ impl<A: Facts> Words<A> {
             (unit, due),
             &needs,
         );
-        lane.spare -= 1;
+        lane.own.submitted(number, unit, needs, due);
         lane.owes = Some(Item::Task { rank, number });
         number
     }
@@ -73,7 +73,7 @@ impl<A: Facts> Words<A> {
         ensures { Grew self.now (A.may_do self.now.app) (Gave future) (effect_of lane.old.progress) lane.old lane.new }
     {
         self.load_event::<Brand, Label, ()>(&mut lane.seat, QUIET_WORD, lane.name, future, &());
-        lane.spare -= 1;
+        lane.own.gave(future);
     }
 
     /// Counts the task in hand as run: the number of the run, from 0 at each rank.
@@ -89,7 +89,7 @@ impl<A: Facts> Words<A> {
     {
         let word = 16 * lane.name.rank as usize + RAN;
         let number = self.add_event::<Brand, (), ()>(&mut lane.seat, word, lane.name, (), &());
-        lane.spare -= 1;
+        lane.own.ended(number, lane.hand);
         lane.hand = None;
         number
     }

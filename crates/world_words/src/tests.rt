@@ -53,9 +53,11 @@ const SECOND: LaneName = LaneName {
 
 #[test]
 fn a_unit_goes_to_another_rank(rt: HostRuntime) -> Result<(), Fail> {
-    let (words, mut root) = Words::new(rt.alloc(), &Pair, 2, 0)?;
+    let (words, mut root) = Words::with_root(rt.alloc(), &Pair, 2, 0, true)?;
     let mut one = words.lane(&mut root, FIRST);
     let mut two = words.lane(&mut root, SECOND);
+    words.reserve(&mut one, 1)?;
+    words.reserve(&mut two, 3)?;
     let carrier = start(&words, &mut one, 1, UNIT);
     assert_eq!(rt; carrier.item, Some(Item::Message { rank: 0, number: 0 }));
     let task = serve(&words, &mut two, carrier, UNIT);

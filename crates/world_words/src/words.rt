@@ -37,6 +37,8 @@ pub struct Words<A: Facts> {
     pub(crate) table: Table<(), View, Setup<A>, WordsRule, Global>,
     pub(crate) ranks: u32,
     pub(crate) workers: u32,
+    pub(crate) trace: bool,
+    pub(crate) alloc: Global,
 }
 
 impl<A: Facts> Model for Words<A> {
@@ -51,6 +53,7 @@ impl<A: Facts> Model for Words<A> {
       table = w.table.shared.table_id;
       ranks = w.table.shared.key.ranks;
       workers = w.table.shared.key.workers;
+      trace = w.trace;
       app = w.table.shared.key.app.value;
       program = program_from 1 (A.kinds_of w.table.shared.key.app.value) (A.starts_of w.table.shared.key.app.value);
     } };

@@ -39,7 +39,7 @@ invariant_of-lane g c =
     let a = c.args in
     let may = g.A.Facts.may_do a.self.now.app in
     let s = c.begin_as.ensures in
-    looked_seat a.self.now may i.name i.spare i.seat.table_id c.begin_as.new.seat.table_id i.hand i.owes i.seat.me c.begin_as.new.seat.me (after_begin (begun (in_hand (own_events i.seat.me.0.parts)) (outlines (g.A.App.label_of a.self.now.app) (g.A.App.due_of a.self.now.app) (g.A.App.home_of a.self.now.app) (g.A.App.kept_at a.self.now.app) a.self.now.ranks a.effects.now)) i.seat.me.0) seat s.0 s.1.1 refl refl s.1.0
+    looked_seat a.self.now may i.name i.own i.seat.table_id c.begin_as.new.seat.table_id i.hand i.owes i.seat.me c.begin_as.new.seat.me (after_begin (begun (in_hand (own_events i.seat.me.0.parts)) (outlines (g.A.App.label_of a.self.now.app) (g.A.App.due_of a.self.now.app) (g.A.App.home_of a.self.now.app) (g.A.App.kept_at a.self.now.app) a.self.now.ranks a.effects.now)) i.seat.me.0) seat s.0 s.1.1 refl refl s.1.0
 
 pub returns-clause-sees : goal.returns-clause-sees
 returns-clause-sees g c =
@@ -49,4 +49,4 @@ returns-clause-sees g c =
     let a = c.args in
     let may = g.A.Facts.may_do a.self.now.app in
     let s = c.begin_as.ensures in
-    sees_more a.self.now may i.name i.spare i.seat.table_id c.begin_as.new.seat.table_id i.hand i.owes i.seat.me c.begin_as.new.seat.me (after_begin (begun (in_hand (own_events i.seat.me.0.parts)) (outlines (g.A.App.label_of a.self.now.app) (g.A.App.due_of a.self.now.app) (g.A.App.home_of a.self.now.app) (g.A.App.kept_at a.self.now.app) a.self.now.ranks a.effects.now)) i.seat.me.0) a.lane.now seat refl c.lane.view_is s.1.0
+    sees_more a.self.now may i.name i.own i.seat.table_id c.begin_as.new.seat.table_id i.hand i.owes i.seat.me c.begin_as.new.seat.me (after_begin (begun (in_hand (own_events i.seat.me.0.parts)) (outlines (g.A.App.label_of a.self.now.app) (g.A.App.due_of a.self.now.app) (g.A.App.home_of a.self.now.app) (g.A.App.kept_at a.self.now.app) a.self.now.ranks a.effects.now)) i.seat.me.0) a.lane.now seat refl c.lane.view_is s.1.0

@@ -41,8 +41,8 @@ load_event-requires-clause-step g c =
     let n = c.join_seat.new.seat.me in
     let o = the_owed d.seat.me.0.owes in
     let none : i.seat.me.0.owes ≡ None = ap (λ (v : LaneView). v.owes) c.lane.view_is ∙ c.requires.free.0 in
-    let t = took_in i.seat.table_id i.name i.hand i.owes (Some o) i.spare i.seat.me d.seat.me n seat carried.passive c.join_seat.ensures.2 in
-    let k = loaded_seat i.seat.table_id c.join_seat.new.seat.table_id i.name i.hand i.owes d.item o i.spare i.seat.me d.seat.me n seat carried.passive c.join_seat.ensures.2 none c.join_seat.ensures.0 in
+    let t = took_in i.seat.table_id i.name i.hand i.owes (Some o) i.own i.seat.me d.seat.me n seat carried.passive c.join_seat.ensures.2 in
+    let k = loaded_seat i.seat.table_id c.join_seat.new.seat.table_id i.name i.hand i.owes d.item o i.own i.seat.me d.seat.me n seat carried.passive c.join_seat.ensures.2 none c.join_seat.ensures.0 in
     let app = a.self.now.app in
     let e = c.requires.effect in
     let room = lane_room _ _ _ _ _ _ seat (subst (λ (v : LaneView). 0 < v.spare) is c.requires.room) in
@@ -73,15 +73,15 @@ returns-clause-grew g c =
     let n = c.join_seat.new.seat.me in
     let o = the_owed d.seat.me.0.owes in
     let none : i.seat.me.0.owes ≡ None = ap (λ (v : LaneView). v.owes) c.lane.view_is ∙ c.requires.free.0 in
-    let t = took_in i.seat.table_id i.name i.hand i.owes (Some o) i.spare i.seat.me d.seat.me n seat carried.passive c.join_seat.ensures.2 in
-    let k = loaded_seat i.seat.table_id c.join_seat.new.seat.table_id i.name i.hand i.owes d.item o i.spare i.seat.me d.seat.me n seat carried.passive c.join_seat.ensures.2 none c.join_seat.ensures.0 in
+    let t = took_in i.seat.table_id i.name i.hand i.owes (Some o) i.own i.seat.me d.seat.me n seat carried.passive c.join_seat.ensures.2 in
+    let k = loaded_seat i.seat.table_id c.join_seat.new.seat.table_id i.name i.hand i.owes d.item o i.own i.seat.me d.seat.me n seat carried.passive c.join_seat.ensures.2 none c.join_seat.ensures.0 in
     let s = c.load_event.ensures in
     let owes : Option Owed = first_of i.seat.me.0.owes (Some o) in
-    let view : lane_view c.join_seat.new.seat.table_id i.name i.spare n ≡ record a.lane.now { owes = owes } =
-    loaded_view i.seat.table_id c.join_seat.new.seat.table_id i.name i.spare i.seat.me n d.seat.me.0.seen owes t c.join_seat.ensures.0 ∙ ap (λ (v : LaneView). record v { owes = owes }) c.lane.view_is in
+    let view : lane_view c.join_seat.new.seat.table_id i.name i.own n ≡ record a.lane.now { owes = owes } =
+    loaded_view i.seat.table_id c.join_seat.new.seat.table_id i.name i.own i.seat.me n d.seat.me.0.seen owes t c.join_seat.ensures.0 ∙ ap (λ (v : LaneView). record v { owes = owes }) c.lane.view_is in
     let effect : effect_in (the_owed n.0.owes).pending ≡ effect_in a.carrier.owed.pending = ap (λ q. effect_in (the_owed q).pending) k.3 ∙ ap (λ (p : CarrierView). effect_in p.owed.pending) c.carrier.view_is in
-    subst (λ (f : Option EffectName). Grew a.self.now may (Erased a.name) f a.lane.now (lane_view c.load_event.new.seat.table_id i.name (i.spare - 1) c.load_event.new.seat.me)) effect
-    (grew_unloaded a.self.now may (Erased a.name) (effect_in (the_owed n.0.owes).pending) owes a.lane.now (lane_view c.load_event.new.seat.table_id i.name (i.spare - 1) c.load_event.new.seat.me) (grew a.self.now may i.name (Erased a.name) (effect_in (the_owed n.0.owes).pending) n c.load_event.result c.load_event.new.seat.me c.join_seat.new.seat.table_id c.load_event.new.seat.table_id i.spare (record a.lane.now { owes = owes }) view c.requires.room s.0 s.1))
+    subst (λ (f : Option EffectName). Grew a.self.now may (Erased a.name) f a.lane.now (lane_view c.load_event.new.seat.table_id i.name c.erased.new.self c.load_event.new.seat.me)) effect
+    (grew_unloaded a.self.now may (Erased a.name) (effect_in (the_owed n.0.owes).pending) owes a.lane.now (lane_view c.load_event.new.seat.table_id i.name c.erased.new.self c.load_event.new.seat.me) (grew a.self.now may i.name (Erased a.name) (effect_in (the_owed n.0.owes).pending) n c.load_event.result c.load_event.new.seat.me c.join_seat.new.seat.table_id c.load_event.new.seat.table_id i.own c.erased.new.self (record a.lane.now { owes = owes }) view c.requires.room s.0 s.1 c.erased.ensures))
 
 pub returns-clause-learnt : goal.returns-clause-learnt
 returns-clause-learnt g c =
@@ -95,8 +95,8 @@ returns-clause-learnt g c =
     let n = c.join_seat.new.seat.me in
     let o = the_owed d.seat.me.0.owes in
     let none : i.seat.me.0.owes ≡ None = ap (λ (v : LaneView). v.owes) c.lane.view_is ∙ c.requires.free.0 in
-    let t = took_in i.seat.table_id i.name i.hand i.owes (Some o) i.spare i.seat.me d.seat.me n seat carried.passive c.join_seat.ensures.2 in
-    let k = loaded_seat i.seat.table_id c.join_seat.new.seat.table_id i.name i.hand i.owes d.item o i.spare i.seat.me d.seat.me n seat carried.passive c.join_seat.ensures.2 none c.join_seat.ensures.0 in
+    let t = took_in i.seat.table_id i.name i.hand i.owes (Some o) i.own i.seat.me d.seat.me n seat carried.passive c.join_seat.ensures.2 in
+    let k = loaded_seat i.seat.table_id c.join_seat.new.seat.table_id i.name i.hand i.owes d.item o i.own i.seat.me d.seat.me n seat carried.passive c.join_seat.ensures.2 none c.join_seat.ensures.0 in
     learnt a.self.now.ranks a.self.now.workers a.self.now.program may (mark i.name (Erased a.name) (effect_in (the_owed n.0.owes).pending)) n.0 c.load_event.new.seat.me.0 a.carrier.seen (ap (λ (v : View). v.told) t ∙ ap (λ (p : CarrierView). p.seen) c.carrier.view_is) c.load_event.ensures.1.0
 
 pub returns-clause-kept : goal.returns-clause-kept

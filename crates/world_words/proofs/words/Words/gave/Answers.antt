@@ -32,5 +32,5 @@ returns g c =
     let a = c.args in
     let may = g.A.Facts.may_do a.self.now.app in
     let s = c.load_event.ensures in
-    subst (λ (p : Option Progress). Grew a.self.now may (Gave a.future) (effect_of p) a.lane.now (lane_view c.load_event.new.seat.table_id i.name (i.spare - 1) c.load_event.new.seat.me)) (ap (λ (v : LaneView). v.progress) c.lane.view_is)
-    (grew a.self.now may i.name (Gave a.future) (effect_of i.seat.me.0.progress) i.seat.me c.load_event.result c.load_event.new.seat.me i.seat.table_id c.load_event.new.seat.table_id i.spare a.lane.now c.lane.view_is c.requires.room s.0 s.1)
+    subst (λ (p : Option Progress). Grew a.self.now may (Gave a.future) (effect_of p) a.lane.now (lane_view c.load_event.new.seat.table_id i.name c.gave.new.self c.load_event.new.seat.me)) (ap (λ (v : LaneView). v.progress) c.lane.view_is)
+    (grew a.self.now may i.name (Gave a.future) (effect_of i.seat.me.0.progress) i.seat.me c.load_event.result c.load_event.new.seat.me i.seat.table_id c.load_event.new.seat.table_id i.own c.gave.new.self a.lane.now c.lane.view_is c.requires.room s.0 s.1 c.gave.ensures)

@@ -22,7 +22,7 @@ invariant_of-lane g c =
     let a = c.args in
     let may = g.A.Facts.may_do a.self.now.app in
     let s = c.is_stopped_as.ensures in
-    looked_seat a.self.now may i.name i.spare i.seat.table_id c.is_stopped_as.new.seat.table_id i.hand i.owes i.seat.me c.is_stopped_as.new.seat.me (after_stop_look (c.is_stopped_as.result == 1) i.seat.me.0) seat s.0 s.1.3 refl refl s.1.0
+    looked_seat a.self.now may i.name i.own i.seat.table_id c.is_stopped_as.new.seat.table_id i.hand i.owes i.seat.me c.is_stopped_as.new.seat.me (after_stop_look (c.is_stopped_as.result == 1) i.seat.me.0) seat s.0 s.1.3 refl refl s.1.0
 
 pub returns-clause-sees : goal.returns-clause-sees
 returns-clause-sees g c =
@@ -32,4 +32,4 @@ returns-clause-sees g c =
     let a = c.args in
     let may = g.A.Facts.may_do a.self.now.app in
     let s = c.is_stopped_as.ensures in
-    sees_more a.self.now may i.name i.spare i.seat.table_id c.is_stopped_as.new.seat.table_id i.hand i.owes i.seat.me c.is_stopped_as.new.seat.me (after_stop_look (c.is_stopped_as.result == 1) i.seat.me.0) a.lane.now seat refl c.lane.view_is s.1.0
+    sees_more a.self.now may i.name i.own i.seat.table_id c.is_stopped_as.new.seat.table_id i.hand i.owes i.seat.me c.is_stopped_as.new.seat.me (after_stop_look (c.is_stopped_as.result == 1) i.seat.me.0) a.lane.now seat refl c.lane.view_is s.1.0

@@ -25,7 +25,7 @@ invariant_of-lane g c =
     let a = c.args in
     let may = g.A.Facts.may_do a.self.now.app in
     let s = c.look_submitted_as.ensures in
-    looked_seat a.self.now may i.name i.spare i.seat.table_id c.look_submitted_as.new.seat.table_id i.hand i.owes i.seat.me c.look_submitted_as.new.seat.me (after_look submissions i.name.rank c.look_submitted_as.result i.seat.me.0) seat s.0 s.1.2 refl refl s.1.0
+    looked_seat a.self.now may i.name i.own i.seat.table_id c.look_submitted_as.new.seat.table_id i.hand i.owes i.seat.me c.look_submitted_as.new.seat.me (after_look submissions i.name.rank c.look_submitted_as.result i.seat.me.0) seat s.0 s.1.2 refl refl s.1.0
 
 pub returns-clause-sees : goal.returns-clause-sees
 returns-clause-sees g c =
@@ -35,4 +35,4 @@ returns-clause-sees g c =
     let a = c.args in
     let may = g.A.Facts.may_do a.self.now.app in
     let s = c.look_submitted_as.ensures in
-    sees_more a.self.now may i.name i.spare i.seat.table_id c.look_submitted_as.new.seat.table_id i.hand i.owes i.seat.me c.look_submitted_as.new.seat.me (after_look submissions i.name.rank c.look_submitted_as.result i.seat.me.0) a.lane.now seat refl c.lane.view_is s.1.0
+    sees_more a.self.now may i.name i.own i.seat.table_id c.look_submitted_as.new.seat.table_id i.hand i.owes i.seat.me c.look_submitted_as.new.seat.me (after_look submissions i.name.rank c.look_submitted_as.result i.seat.me.0) a.lane.now seat refl c.lane.view_is s.1.0

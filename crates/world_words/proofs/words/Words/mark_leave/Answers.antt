@@ -29,4 +29,4 @@ returns g c =
     let a = c.args in
     let may = g.A.Facts.may_do a.self.now.app in
     let s = c.load_event.ensures in
-    grew a.self.now may i.name (Leave a.fence) (None) i.seat.me c.load_event.result c.load_event.new.seat.me i.seat.table_id c.load_event.new.seat.table_id i.spare a.lane.now c.lane.view_is c.requires.room s.0 s.1
+    grew a.self.now may i.name (Leave a.fence) (None) i.seat.me c.load_event.result c.load_event.new.seat.me i.seat.table_id c.load_event.new.seat.table_id i.own c.leave.new.self a.lane.now c.lane.view_is c.requires.room s.0 s.1 c.leave.ensures

@@ -1,8 +1,9 @@
-use Rattle.std.proofs.Common.{◌≡◌, ◌+◌, ◌-◌, ◌<◌, ◌^◌, ◌%◌, false, length, sym, ap, subst}
+use Rattle.std.proofs.Common.{◌≡◌, ◌+◌, ◌-◌, ◌<◌, ◌^◌, ◌%◌, false, length, sym, ap, subst, ◌∙◌}
 use Rattle.std.specs.Prelude.{Option, Some, None}
 use Rattle.atomic_table.specs.Table.{Allows}
 use Rattle.event_lists.specs.declared.event.Event.{Event}
 use Rattle.event_lists.specs.declared.mark.Item.{Item}
+use Rattle.event_lists.specs.declared.mark.Item.TheVariants.{Task}
 use Rattle.event_lists.specs.declared.kind.Kind.TheVariants.{Runs as runs}
 use Rattle.event_lists.specs.Events.{in_hand}
 use Rattle.event_lists.specs.Dues.{Dues}
@@ -13,7 +14,7 @@ use Rattle.world_rule.specs.Shows.{ShowsOneRun}
 use Rattle.world_rule.specs.Steps.{Appends, KnowsStored}
 use Rattle.world_rule.proofs.TaskEndLemmas.{runs_one}
 use Rattle.world_words.specs.Lanes.{LaneView, Grew}
-use Rattle.world_words.proofs.LaneSeatLemmas.{lane_view, lane_room, grew, ended_numbered}
+use Rattle.world_words.proofs.LaneSeatLemmas.{lane_view, lane_room, grew, ended_numbered, ended_recorded, ended_seat}
 use Rattle.world_words.proofs.words.Words.ran.Goals as goal
 
 pub add_event-number-requires-clause-step : goal.add_event-number-requires-clause-step
@@ -34,6 +35,19 @@ add_event-number-requires-clause-step g c =
     (subst (λ (v : LaneView). KnowsStored d.0 (length d.0.outlines) v.seen) is d.3)
     (subst (λ (h : Option Item). Dues i.seat.me.0.seen i.name (own_events i.seat.me.0.parts) (ended 0 h)) hand (subst (λ (v : LaneView). Dues v.seen v.name v.mine (ended 0 (in_hand v.mine))) is c.requires.dues)))
 
+pub invariant_of-lane : goal.invariant_of-lane
+invariant_of-lane g c =
+    let i = c.lane.inside in
+    let is = sym c.lane.view_is in
+    let seat = c.lane.invariant in
+    let a = c.args in
+    let may = g.A.Facts.may_do a.self.now.app in
+    let d = c.requires.done in
+    let hand = seat.begun d.0 (subst (λ (v : LaneView). v.progress ≡ Some d.0) is d.1) in
+    let s = c.add_event-number.ensures in
+    ended_seat a.self.now may i.name i.seat.me c.add_event-number.result c.add_event-number.new.seat.me i.seat.table_id c.add_event-number.new.seat.table_id i.hand i.owes i.own c.ended.new.self (Task d.0.rank d.0.number) seat
+    (subst (λ (v : LaneView). 0 < v.spare) is c.requires.room) s.0 (subst (λ (v : LaneView). v.owes ≡ None) is c.requires.free.0) hand s.1 (c.ended.ensures (Task d.0.rank d.0.number) (sym seat.hand_is ∙ hand))
+
 pub returns : goal.returns
 returns g c =
     let i = c.lane.inside in
@@ -41,7 +55,10 @@ returns g c =
     let seat = c.lane.invariant in
     let a = c.args in
     let may = g.A.Facts.may_do a.self.now.app in
+    let d = c.requires.done in
+    let hand = seat.begun d.0 (subst (λ (v : LaneView). v.progress ≡ Some d.0) is d.1) in
     let s = c.add_event-number.ensures in
-    subst (λ (h : Option Item). Grew a.self.now may (ended c.add_event-number.result h) None a.lane.now (lane_view c.add_event-number.new.seat.table_id i.name (i.spare - 1) c.add_event-number.new.seat.me)) (ap (λ (v : LaneView). in_hand v.mine) c.lane.view_is)
-    (subst (λ (e : Event). Grew a.self.now may e None a.lane.now (lane_view c.add_event-number.new.seat.table_id i.name (i.spare - 1) c.add_event-number.new.seat.me)) (ended_numbered c.add_event-number.result (in_hand (own_events i.seat.me.0.parts)))
-    (grew a.self.now may i.name (ended 0 (in_hand (own_events i.seat.me.0.parts))) (None) i.seat.me c.add_event-number.result c.add_event-number.new.seat.me i.seat.table_id c.add_event-number.new.seat.table_id i.spare a.lane.now c.lane.view_is c.requires.room s.0 s.1))
+    subst (λ (h : Option Item). Grew a.self.now may (ended c.add_event-number.result h) None a.lane.now (lane_view c.add_event-number.new.seat.table_id i.name c.ended.new.self c.add_event-number.new.seat.me)) (ap (λ (v : LaneView). in_hand v.mine) c.lane.view_is)
+    (subst (λ (e : Event). Grew a.self.now may e None a.lane.now (lane_view c.add_event-number.new.seat.table_id i.name c.ended.new.self c.add_event-number.new.seat.me)) (ended_numbered c.add_event-number.result (in_hand (own_events i.seat.me.0.parts)))
+    (grew a.self.now may i.name (ended 0 (in_hand (own_events i.seat.me.0.parts))) (None) i.seat.me c.add_event-number.result c.add_event-number.new.seat.me i.seat.table_id c.add_event-number.new.seat.table_id i.own c.ended.new.self a.lane.now c.lane.view_is c.requires.room s.0 s.1
+    (ended_recorded c.add_event-number.result (in_hand (own_events i.seat.me.0.parts)) (Task d.0.rank d.0.number) i.own c.ended.new.self hand (c.ended.ensures (Task d.0.rank d.0.number) (sym seat.hand_is ∙ hand)))))

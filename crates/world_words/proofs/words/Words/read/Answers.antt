@@ -32,5 +32,5 @@ returns g c =
     let a = c.args in
     let may = g.A.Facts.may_do a.self.now.app in
     let s = c.load_event-value.ensures in
-    subst (λ (e : Event). Grew a.self.now may e None a.lane.now (lane_view c.load_event-value.new.seat.table_id i.name (i.spare - 1) c.load_event-value.new.seat.me)) (read_numbered a.kind c.load_event-value.result 0 a.fence a.pass)
-    (grew a.self.now may i.name (reading_event a.kind 0 a.fence a.pass) (None) i.seat.me c.load_event-value.result c.load_event-value.new.seat.me i.seat.table_id c.load_event-value.new.seat.table_id i.spare a.lane.now c.lane.view_is c.requires.room s.0 s.1)
+    subst (λ (e : Event). Grew a.self.now may e None a.lane.now (lane_view c.load_event-value.new.seat.table_id i.name c.read.new.self c.load_event-value.new.seat.me)) (read_numbered a.kind c.load_event-value.result 0 a.fence a.pass)
+    (grew a.self.now may i.name (reading_event a.kind 0 a.fence a.pass) (None) i.seat.me c.load_event-value.result c.load_event-value.new.seat.me i.seat.table_id c.load_event-value.new.seat.table_id i.own c.read.new.self a.lane.now c.lane.view_is c.requires.room s.0 s.1 c.read.ensures)

@@ -38,7 +38,7 @@ invariant_of-lane g c =
     let a = c.args in
     let may = g.A.Facts.may_do a.self.now.app in
     let s = c.add_event-number.ensures in
-    grown_seat a.self.now may i.name (Sent 0 a.to a.parcel) (effect_of i.seat.me.0.progress) i.seat.me c.add_event-number.result c.add_event-number.new.seat.me i.seat.table_id c.add_event-number.new.seat.table_id i.hand i.hand i.owes _ i.spare seat (subst (λ (v : LaneView). 0 < v.spare) is c.requires.room) s.0 s.1 (sym seat.hand_is) refl
+    grown_seat a.self.now may i.name (Sent 0 a.to a.parcel) (effect_of i.seat.me.0.progress) i.seat.me c.add_event-number.result c.add_event-number.new.seat.me i.seat.table_id c.add_event-number.new.seat.table_id i.hand i.hand i.owes _ i.own c.sent.new.self seat (subst (λ (v : LaneView). 0 < v.spare) is c.requires.room) s.0 s.1 (sym seat.hand_is) refl c.sent.ensures
 
 pub returns : goal.returns
 returns g c =
@@ -48,5 +48,5 @@ returns g c =
     let a = c.args in
     let may = g.A.Facts.may_do a.self.now.app in
     let s = c.add_event-number.ensures in
-    subst (λ (p : Option Progress). Grew a.self.now may (Sent c.add_event-number.result a.to a.parcel) (effect_of p) a.lane.now (lane_view c.add_event-number.new.seat.table_id i.name (i.spare - 1) c.add_event-number.new.seat.me)) (ap (λ (v : LaneView). v.progress) c.lane.view_is)
-    (grew a.self.now may i.name (Sent 0 a.to a.parcel) (effect_of i.seat.me.0.progress) i.seat.me c.add_event-number.result c.add_event-number.new.seat.me i.seat.table_id c.add_event-number.new.seat.table_id i.spare a.lane.now c.lane.view_is c.requires.room s.0 s.1)
+    subst (λ (p : Option Progress). Grew a.self.now may (Sent c.add_event-number.result a.to a.parcel) (effect_of p) a.lane.now (lane_view c.add_event-number.new.seat.table_id i.name c.sent.new.self c.add_event-number.new.seat.me)) (ap (λ (v : LaneView). v.progress) c.lane.view_is)
+    (grew a.self.now may i.name (Sent 0 a.to a.parcel) (effect_of i.seat.me.0.progress) i.seat.me c.add_event-number.result c.add_event-number.new.seat.me i.seat.table_id c.add_event-number.new.seat.table_id i.own c.sent.new.self a.lane.now c.lane.view_is c.requires.room s.0 s.1 c.sent.ensures)

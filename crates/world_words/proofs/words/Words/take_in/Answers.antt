@@ -8,16 +8,16 @@ use Rattle.world_rule.specs.declared.view.Pending.{Pending}
 use Rattle.world_rule.specs.declared.view.Pending.TheVariants.{Counted}
 use Rattle.world_rule.specs.declared.view.Owed.{Owed}
 use Rattle.world_rule.specs.declared.view.View.{View}
-use Rattle.world_rule.specs.Owing.{took, Made, IsCounted, NeedsKnown}
+use Rattle.world_rule.specs.Owing.{took, Made, IsCounted, NeedsKnown, item_in}
 use Rattle.world_rule.specs.Views.{mark, numbered, first_of}
 use Rattle.world_rule.specs.Shows.{ShowsOneRun}
 use Rattle.world_rule.specs.Steps.{Appends}
-use Rattle.world_rule.proofs.PendingLemmas.{made_begins}
+use Rattle.world_rule.proofs.PendingLemmas.{made_begins, from_made}
 use Rattle.world_rule.proofs.SeatLemmas.{unites}
 use Rattle.world_rule.proofs.EventKindLemmas.{takes_one, counted_item}
 use Rattle.world_words.specs.Lanes.{LaneView, CarrierView, Grew}
 use Rattle.world_words.specs.Seats.{the_owed}
-use Rattle.world_words.proofs.LaneSeatLemmas.{lane_view, lane_room, grew, took_in, loaded_seat, loaded_view, grew_unloaded, learnt, took_numbered}
+use Rattle.world_words.proofs.LaneSeatLemmas.{lane_view, lane_room, grew, took_in, loaded_seat, loaded_view, grew_unloaded, learnt, took_numbered, took_recorded}
 use Rattle.world_words.proofs.words.Words.take_in.Goals as goal
 
 pub join_seat-requires : goal.join_seat-requires
@@ -35,8 +35,8 @@ load_event-requires-clause-step g c =
     let n = c.join_seat.new.seat.me in
     let o = the_owed d.seat.me.0.owes in
     let none : i.seat.me.0.owes ≡ None = ap (λ (v : LaneView). v.owes) c.lane.view_is ∙ c.requires.free.0 in
-    let t = took_in i.seat.table_id i.name i.hand i.owes (Some o) i.spare i.seat.me d.seat.me n seat carried.passive c.join_seat.ensures.2 in
-    let k = loaded_seat i.seat.table_id c.join_seat.new.seat.table_id i.name i.hand i.owes d.item o i.spare i.seat.me d.seat.me n seat carried.passive c.join_seat.ensures.2 none c.join_seat.ensures.0 in
+    let t = took_in i.seat.table_id i.name i.hand i.owes (Some o) i.own i.seat.me d.seat.me n seat carried.passive c.join_seat.ensures.2 in
+    let k = loaded_seat i.seat.table_id c.join_seat.new.seat.table_id i.name i.hand i.owes d.item o i.own i.seat.me d.seat.me n seat carried.passive c.join_seat.ensures.2 none c.join_seat.ensures.0 in
     let held = sym c.carrier.view_is in
     let counted : IsCounted o.pending = subst (λ (p : CarrierView). IsCounted p.owed.pending) held c.requires.item.0 in
     let one = counted_item o.pending counted in
@@ -51,7 +51,7 @@ load_event-requires-clause-step g c =
     (takes_one a.self.now.ranks a.self.now.workers a.self.now.program may _ _ n i.name _ k.1
     (subst (λ (es : List Event). length es < 2 ^ 48) (sym k.2) room) k.0 hand_lane o k.3 to one.0 one.1
     (ap in_hand k.2 ∙ idle)
-    (subst (Made o) (sym told) (carried.made counted))
+    (subst (Made o) (sym told) (from_made o d.seat.me.0.seen o.pending counted carried.origin))
     (subst (λ (z : Pending). NeedsKnown z n.0.told n.0.seen) one.1 (subst (NeedsKnown o.pending n.0.told) (sym (ap (λ (v : View). v.seen) t)) (subst (λ (log : List Mark). NeedsKnown o.pending log i.seat.me.0.seen) (sym told) known))))
 
 pub returns-clause-grew : goal.returns-clause-grew
@@ -66,17 +66,18 @@ returns-clause-grew g c =
     let n = c.join_seat.new.seat.me in
     let o = the_owed d.seat.me.0.owes in
     let none : i.seat.me.0.owes ≡ None = ap (λ (v : LaneView). v.owes) c.lane.view_is ∙ c.requires.free.0 in
-    let t = took_in i.seat.table_id i.name i.hand i.owes (Some o) i.spare i.seat.me d.seat.me n seat carried.passive c.join_seat.ensures.2 in
-    let k = loaded_seat i.seat.table_id c.join_seat.new.seat.table_id i.name i.hand i.owes d.item o i.spare i.seat.me d.seat.me n seat carried.passive c.join_seat.ensures.2 none c.join_seat.ensures.0 in
+    let t = took_in i.seat.table_id i.name i.hand i.owes (Some o) i.own i.seat.me d.seat.me n seat carried.passive c.join_seat.ensures.2 in
+    let k = loaded_seat i.seat.table_id c.join_seat.new.seat.table_id i.name i.hand i.owes d.item o i.own i.seat.me d.seat.me n seat carried.passive c.join_seat.ensures.2 none c.join_seat.ensures.0 in
     let s = c.load_event.ensures in
     let owes : Option Owed = first_of i.seat.me.0.owes (Some o) in
-    let view : lane_view c.join_seat.new.seat.table_id i.name i.spare n ≡ record a.lane.now { owes = owes } =
-    loaded_view i.seat.table_id c.join_seat.new.seat.table_id i.name i.spare i.seat.me n d.seat.me.0.seen owes t c.join_seat.ensures.0 ∙ ap (λ (v : LaneView). record v { owes = owes }) c.lane.view_is in
+    let view : lane_view c.join_seat.new.seat.table_id i.name i.own n ≡ record a.lane.now { owes = owes } =
+    loaded_view i.seat.table_id c.join_seat.new.seat.table_id i.name i.own i.seat.me n d.seat.me.0.seen owes t c.join_seat.ensures.0 ∙ ap (λ (v : LaneView). record v { owes = owes }) c.lane.view_is in
     let held = sym c.carrier.view_is in
     let counted : IsCounted o.pending = subst (λ (p : CarrierView). IsCounted p.owed.pending) held c.requires.item.0 in
+    let one = counted_item o.pending counted in
     let event : numbered c.load_event.result (took (the_owed n.0.owes).pending) ≡ took a.carrier.owed.pending = took_numbered c.load_event.result (the_owed n.0.owes).pending ∙ ap (λ q. took (the_owed q).pending) k.3 ∙ ap (λ (p : CarrierView). took p.owed.pending) c.carrier.view_is in
-    subst (λ (e : Event). Grew a.self.now may e None a.lane.now (lane_view c.load_event.new.seat.table_id i.name (i.spare - 1) c.load_event.new.seat.me)) event
-    (grew_unloaded a.self.now may (numbered c.load_event.result (took (the_owed n.0.owes).pending)) None owes a.lane.now (lane_view c.load_event.new.seat.table_id i.name (i.spare - 1) c.load_event.new.seat.me) (grew a.self.now may i.name (took (the_owed n.0.owes).pending) None n c.load_event.result c.load_event.new.seat.me c.join_seat.new.seat.table_id c.load_event.new.seat.table_id i.spare (record a.lane.now { owes = owes }) view c.requires.room s.0 s.1))
+    subst (λ (e : Event). Grew a.self.now may e None a.lane.now (lane_view c.load_event.new.seat.table_id i.name c.took.new.self c.load_event.new.seat.me)) event
+    (grew_unloaded a.self.now may (numbered c.load_event.result (took (the_owed n.0.owes).pending)) None owes a.lane.now (lane_view c.load_event.new.seat.table_id i.name c.took.new.self c.load_event.new.seat.me) (grew a.self.now may i.name (took (the_owed n.0.owes).pending) None n c.load_event.result c.load_event.new.seat.me c.join_seat.new.seat.table_id c.load_event.new.seat.table_id i.own c.took.new.self (record a.lane.now { owes = owes }) view c.requires.room s.0 s.1 (took_recorded c.load_event.result (the_owed n.0.owes).pending one.0 i.own c.took.new.self (ap (λ q. (the_owed q).pending) k.3 ∙ one.1) (c.took.ensures one.0 (sym carried.item_is ∙ ap item_in one.1)))))
 
 pub returns-clause-learnt : goal.returns-clause-learnt
 returns-clause-learnt g c =
@@ -90,8 +91,8 @@ returns-clause-learnt g c =
     let n = c.join_seat.new.seat.me in
     let o = the_owed d.seat.me.0.owes in
     let none : i.seat.me.0.owes ≡ None = ap (λ (v : LaneView). v.owes) c.lane.view_is ∙ c.requires.free.0 in
-    let t = took_in i.seat.table_id i.name i.hand i.owes (Some o) i.spare i.seat.me d.seat.me n seat carried.passive c.join_seat.ensures.2 in
-    let k = loaded_seat i.seat.table_id c.join_seat.new.seat.table_id i.name i.hand i.owes d.item o i.spare i.seat.me d.seat.me n seat carried.passive c.join_seat.ensures.2 none c.join_seat.ensures.0 in
+    let t = took_in i.seat.table_id i.name i.hand i.owes (Some o) i.own i.seat.me d.seat.me n seat carried.passive c.join_seat.ensures.2 in
+    let k = loaded_seat i.seat.table_id c.join_seat.new.seat.table_id i.name i.hand i.owes d.item o i.own i.seat.me d.seat.me n seat carried.passive c.join_seat.ensures.2 none c.join_seat.ensures.0 in
     learnt a.self.now.ranks a.self.now.workers a.self.now.program may (mark i.name (numbered c.load_event.result (took (the_owed n.0.owes).pending)) None) n.0 c.load_event.new.seat.me.0 a.carrier.seen (ap (λ (v : View). v.told) t ∙ ap (λ (p : CarrierView). p.seen) c.carrier.view_is) c.load_event.ensures.1.0
 
 pub returns-clause-made : goal.returns-clause-made
@@ -106,8 +107,8 @@ returns-clause-made g c =
     let n = c.join_seat.new.seat.me in
     let o = the_owed d.seat.me.0.owes in
     let none : i.seat.me.0.owes ≡ None = ap (λ (v : LaneView). v.owes) c.lane.view_is ∙ c.requires.free.0 in
-    let t = took_in i.seat.table_id i.name i.hand i.owes (Some o) i.spare i.seat.me d.seat.me n seat carried.passive c.join_seat.ensures.2 in
-    let k = loaded_seat i.seat.table_id c.join_seat.new.seat.table_id i.name i.hand i.owes d.item o i.spare i.seat.me d.seat.me n seat carried.passive c.join_seat.ensures.2 none c.join_seat.ensures.0 in
+    let t = took_in i.seat.table_id i.name i.hand i.owes (Some o) i.own i.seat.me d.seat.me n seat carried.passive c.join_seat.ensures.2 in
+    let k = loaded_seat i.seat.table_id c.join_seat.new.seat.table_id i.name i.hand i.owes d.item o i.own i.seat.me d.seat.me n seat carried.passive c.join_seat.ensures.2 none c.join_seat.ensures.0 in
     let counted : IsCounted o.pending = subst (λ (p : CarrierView). IsCounted p.owed.pending) (sym c.carrier.view_is) c.requires.item.0 in
     let knows = learnt a.self.now.ranks a.self.now.workers a.self.now.program may (mark i.name (numbered c.load_event.result (took (the_owed n.0.owes).pending)) None) n.0 c.load_event.new.seat.me.0 d.seat.me.0.seen (ap (λ (v : View). v.told) t) c.load_event.ensures.1.0 in
-    subst (λ (p : CarrierView). Made p.owed c.load_event.new.seat.me.0.seen) c.carrier.view_is (made_begins o d.seat.me.0.seen c.load_event.new.seat.me.0.seen knows (carried.made counted))
+    subst (λ (p : CarrierView). Made p.owed c.load_event.new.seat.me.0.seen) c.carrier.view_is (made_begins o d.seat.me.0.seen c.load_event.new.seat.me.0.seen knows (from_made o d.seat.me.0.seen o.pending counted carried.origin))
