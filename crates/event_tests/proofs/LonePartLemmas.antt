@@ -7,7 +7,7 @@ use Rattle.event_lists.specs.declared.event.Event.{Event}
 use Rattle.event_lists.specs.declared.event.Event.TheVariants.{Enter}
 use Rattle.event_lists.specs.Events.{main_of}
 use Rattle.event_lists.specs.Legal.{IsLane}
-use Rattle.event_core.specs.Books.{PartData, IsBook, IsBefore, HasRows}
+use Rattle.event_books.specs.Books.{PartData, IsBook, IsBefore, HasRows}
 
 -- of rank 0's main, which entered a fence, over one rank without workers
 entered_is_book : (f : ℕ) → IsBook (record { ranks = 1; workers = 0; parts = record { lane = main_of 0; events = Enter f ∷ [] } ∷ [] })

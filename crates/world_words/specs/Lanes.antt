@@ -10,6 +10,7 @@ use Rattle.event_lists.specs.declared.mark.EffectName.{EffectName}
 use Rattle.event_lists.specs.declared.mark.Mark.{Mark}
 use Rattle.event_lists.specs.Events.{Begins, part}
 use Rattle.event_lists.specs.Legal.{IsLane}
+use Rattle.event_books.specs.Books.{PartData}
 use Rattle.event_laws.specs.Follows.{TaskEffects, Doing, IsRun}
 use Rattle.world_rule.specs.declared.view.Owed.{Owed}
 use Rattle.world_rule.specs.declared.view.OwnPart.{OwnPart}
@@ -57,13 +58,15 @@ pub record ToldView : Type 0 where
   pub table : TableId
   pub seen : List Mark
 
--- the seat that has the lanes which nobody has
+-- the seat that has the lanes which nobody has; what folded lanes kept, for a book, and room for more of it
 pub record RootView : Type 0 where
   pub table : TableId
   pub parts : List OwnPart
   pub seen : List Mark
   pub set_stop : Bool
   pub saw_stop : Bool
+  pub book : List PartData
+  pub room : ℕ
 
 abbrev pub task_name : Label → List Label → Option Label → TaskName
 task_name u ns d = record { unit = u; needs = ns; due = d }

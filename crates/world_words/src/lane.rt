@@ -3,6 +3,7 @@ ghost use Rattle.std.specs.Prelude.{◌≡◌};
 ghost use Rattle.world_rule.specs.Owing.{ComesFrom};
 
 use atomic_table::Seat;
+use event_books::LanePart;
 use event_lists::{Item, LaneName};
 use lane_trace::LaneRecord;
 use std::marker::Model;
@@ -113,15 +114,19 @@ impl Model for Told {
 #[derive(Drop)]
 pub struct Root {
     pub(crate) seat: Seat<(), View>,
+
+    // What lanes kept that were folded by `close`, with room for all lanes.
+    pub(crate) parts: Vec<LanePart>,
 }
 
 impl Model for Root {
+    ghost use Rattle.std.specs.Prelude.{◌-◌, vec_len, vec_capacity};
     ghost use Rattle.world_words.specs.Lanes.{RootView};
     ghost use Rattle.world_words.specs.Seats.{IsRootSeat};
 
     ghost Value = { RootView };
 
-    ghost view = { λ c. record { table = c.seat.table_id; parts = c.seat.me.0.parts; seen = c.seat.me.0.seen; set_stop = c.seat.me.0.set_stop; saw_stop = c.seat.me.0.saw_stop } };
+    ghost view = { λ c. record { table = c.seat.table_id; parts = c.seat.me.0.parts; seen = c.seat.me.0.seen; set_stop = c.seat.me.0.set_stop; saw_stop = c.seat.me.0.saw_stop; book = c.parts.items; room = vec_capacity c.parts - vec_len c.parts } };
 
     ghost invariant = { λ c. IsRootSeat c.seat.me };
 }

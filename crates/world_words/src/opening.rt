@@ -1,5 +1,6 @@
 //! How the words begin, and how lanes are given out and taken back.
 ghost use Rattle.std.specs.Prelude.{◌≡◌, ℕ, ◌+◌, ◌*◌, ◌^◌, ◌<◌, ◌≤◌, ◌||◌, ◌↔◌, true, false, Some, None, Err, List, [], ◌∷◌, ◌++◌, map, max, length, IsOk, IfOk, OnOk, OnErr, Contains};
+ghost use Rattle.app_core.specs.Commands.{IsRankCount};
 ghost use Rattle.event_lists.specs.Events.{Begins};
 ghost use Rattle.event_laws.specs.Follows.{program_from};
 ghost use Rattle.lane_trace.specs.declared.record.ReserveError.TheVariants.{Worn, OutOfMemory as NoMemory};
@@ -37,14 +38,15 @@ impl<A: Facts> Words<A> {
         workers: u32,
         trace: bool,
     ) -> Result<(Words<A>, Root), OutOfMemory>
-        requires ranks { ranks ≤ 16 }
+        requires ranks { IsRankCount ranks }
         requires workers { workers ≤ 4 }
         ensures size { IfOk result (λ r. (r.0.ranks ≡ ranks) × (r.0.workers ≡ workers) × (r.0.trace ≡ trace)) }
         ensures app { IfOk result (λ r. (r.0.app ≡ app.now) × (r.0.program ≡ program_from 1 (A.kinds_of app.now) (A.starts_of app.now))) }
         ensures lanes { IfOk result (λ r. (r.1.table ≡ r.0.table) × (r.1.parts ≡ map empty_part (all_lanes ranks workers))) }
-        ensures new { IfOk result (λ r. (r.1.seen ≡ []) × (r.1.set_stop ≡ false) × (r.1.saw_stop ≡ false)) }
+        ensures new { IfOk result (λ r. (r.1.seen ≡ []) × (r.1.book ≡ []) × (21 * ranks ≤ r.1.room) × (r.1.set_stop ≡ false) × (r.1.saw_stop ≡ false)) }
     {
         let zeros = Vec::from_elem(alloc, 0u64, 16 * ranks as usize + 32)?;
+        let parts = Vec::with_capacity(alloc, 21 * ranks as usize)?;
         let about = Setup {
             app: Snapshot::of(app),
             ranks,
@@ -59,7 +61,7 @@ impl<A: Facts> Words<A> {
                 trace,
                 alloc,
             },
-            Root { seat },
+            Root { seat, parts },
         ))
     }
 
@@ -121,7 +123,7 @@ impl<A: Facts> Words<A> {
         requires table { (root.old.table ≡ self.now.table) × (lane.table ≡ self.now.table) }
         requires free { (lane.owes ≡ None) × (lane.progress ≡ None) }
         ensures parts { root.new.parts ≡ root.old.parts ++ own_part lane.name lane.mine ∷ [] }
-        ensures table { root.new.table ≡ root.old.table }
+        ensures table { (root.new.table ≡ root.old.table) × (root.new.book ≡ root.old.book) × (root.new.room ≡ root.old.room) }
         ensures seen { Begins root.old.seen root.new.seen × Begins lane.seen root.new.seen }
         ensures stop { (root.new.set_stop ≡ (root.old.set_stop || lane.set_stop)) × (root.new.saw_stop ≡ (root.old.saw_stop || lane.saw_stop)) }
         ensures lawful { Lawful self.now (A.may_do self.now.app) root.new.parts root.new.seen }

@@ -42,7 +42,8 @@ pub struct Words<A: Facts> {
 }
 
 impl<A: Facts> Model for Words<A> {
-    ghost use Rattle.std.specs.Prelude.{◌≡◌, ◌+◌, ◌*◌, ◌≤◌};
+    ghost use Rattle.std.specs.Prelude.{◌≡◌, ◌≤◌};
+    ghost use Rattle.app_core.specs.Commands.{IsRankCount};
     ghost use Rattle.event_laws.specs.Follows.{program_from};
     ghost use Rattle.world_rule.specs.CounterWords.{word_count};
     ghost use Rattle.world_words.specs.Lanes.{WordsView};
@@ -58,7 +59,7 @@ impl<A: Facts> Model for Words<A> {
       program = program_from 1 (A.kinds_of w.table.shared.key.app.value) (A.starts_of w.table.shared.key.app.value);
     } };
 
-    ghost invariant = { λ w. (w.table.shared.table_id.words ≡ word_count w.ranks) × (w.table.shared.key.ranks ≡ w.ranks) × (w.table.shared.key.workers ≡ w.workers) × (w.ranks ≤ 16) };
+    ghost invariant = { λ w. (w.table.shared.table_id.words ≡ word_count w.ranks) × (w.table.shared.key.ranks ≡ w.ranks) × (w.table.shared.key.workers ≡ w.workers) × IsRankCount w.ranks × (w.workers ≤ 4) };
 }
 
 /// Where a rank's count of a kind is.

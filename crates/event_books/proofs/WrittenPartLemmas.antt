@@ -14,7 +14,7 @@ use Rattle.event_lists.specs.Events.{same_lane, part}
 use Rattle.event_lists.specs.Fences.{Fences}
 use Rattle.event_lists.specs.Legal.{IsLane, NumberFits, Legal}
 use Rattle.event_lists.proofs.LaneLemmas.{same_lane_true, same_lane_refl}
-use Rattle.event_core.specs.Books.{PartData, IsBefore, HasRows, events_of, lanes_from, lanes_of_ranks, lanes_in_order, part_with, parts_in, book_of, PartsAreOfABook}
+use Rattle.event_books.specs.Books.{PartData, IsBefore, HasRows, events_of, lanes_from, lanes_of_ranks, lanes_in_order, part_with, parts_in, book_of, PartsAreOfABook}
 
 -- what holds of each element and each later one of two lists, and of each of the first and each of the second
 pairs_append : {X : Type 0} (R : X → X → Type 0) (xs ys : List X) → AllPairs R xs → AllPairs R ys → All (λ x. All (R x) ys) xs → AllPairs R (xs ++ ys)
@@ -137,7 +137,7 @@ part_rows ranks workers l (x ∷ log) h = step (part_rows ranks workers l log h.
     step rest false = rest
 
 -- a lane in a list of lanes
-Among : LaneName → List LaneName → Type 0
+abbrev Among : LaneName → List LaneName → Type 0
 Among l [] = ⊥
 Among l (m ∷ ms) = (m ≡ l) ⊎ Among l ms
 
@@ -150,41 +150,31 @@ among_right : (l : LaneName) (ls ms : List LaneName) → Among l ms → Among l 
 among_right l [] ms h = h
 among_right l (k ∷ ls) ms h = inr (among_right l ls ms h)
 
+next_or_more : (a c : ℕ) → (a ≡ c) ⊎ (suc a ≤ c) → (suc a ≡ suc c) ⊎ (suc (suc a) ≤ suc c)
+next_or_more a c (inl e) = inl (ap suc e)
+next_or_more a c (inr g) = inr (omega (arith, g))
+
+same_or_more : (a c : ℕ) → a ≤ c → (a ≡ c) ⊎ (suc a ≤ c)
+same_or_more zero zero h = inl refl
+same_or_more zero (suc c) h = inr (omega arith)
+same_or_more (suc a) zero h = absurd (omega (arith, h))
+same_or_more (suc a) (suc c) h = next_or_more a c (same_or_more a c (omega (arith, h)))
+
 lane_from : (l : LaneName) (b : Bool) (r k n : ℕ) → l.bin ≡ b → l.rank ≡ r → k ≤ l.number → l.number < k + n → Among l (lanes_from b r k n)
 lane_from l b r k zero bin rank low high = absurd (omega (arith, low, high))
-lane_from l b r k (suc n) bin rank low high = at (omega_either k l.number low)
+lane_from l b r k (suc n) bin rank low high = at (λ more. lane_from l b r (suc k) n bin rank more (omega (arith, high))) (same_or_more k l.number low)
   where
-    omega_either : (a c : ℕ) → a ≤ c → (a ≡ c) ⊎ (suc a ≤ c)
-    omega_either zero zero h = inl refl
-    omega_either zero (suc c) h = inr (omega arith)
-    omega_either (suc a) zero h = absurd (omega (arith, h))
-    omega_either (suc a) (suc c) h = more (omega_either a c (omega (arith, h)))
-      where
-        more : (a ≡ c) ⊎ (suc a ≤ c) → (suc a ≡ suc c) ⊎ (suc (suc a) ≤ suc c)
-        more (inl e) = inl (ap suc e)
-        more (inr g) = inr (omega (arith, g))
-
-    at : (k ≡ l.number) ⊎ (suc k ≤ l.number) → Among l (lanes_from b r k (suc n))
-    at (inl e) = inl (λ i. record { rank = rank (~ i); bin = bin (~ i); number = e i })
-    at (inr more) = inr (lane_from l b r (suc k) n bin rank more (omega (arith, high)))
+    at : (suc k ≤ l.number → Among l (lanes_from b r (suc k) n)) → (k ≡ l.number) ⊎ (suc k ≤ l.number) → Among l (lanes_from b r k (suc n))
+    at rest (inl e) = inl (λ i. record { rank = (sym rank) i; bin = (sym bin) i; number = e i })
+    at rest (inr more) = inr (rest more)
 
 lane_of_ranks : (l : LaneName) (b : Bool) (each r n : ℕ) → l.bin ≡ b → r ≤ l.rank → l.rank < r + n → l.number < each → Among l (lanes_of_ranks b each r n)
 lane_of_ranks l b each r zero bin low high below = absurd (omega (arith, low, high))
-lane_of_ranks l b each r (suc n) bin low high below = at (decide r l.rank low)
+lane_of_ranks l b each r (suc n) bin low high below = at (λ more. lane_of_ranks l b each (suc r) n bin more (omega (arith, high)) below) (same_or_more r l.rank low)
   where
-    decide : (a c : ℕ) → a ≤ c → (c ≡ a) ⊎ (suc a ≤ c)
-    decide zero zero h = inl refl
-    decide zero (suc c) h = inr (omega arith)
-    decide (suc a) zero h = absurd (omega (arith, h))
-    decide (suc a) (suc c) h = more (decide a c (omega (arith, h)))
-      where
-        more : (c ≡ a) ⊎ (suc a ≤ c) → (suc c ≡ suc a) ⊎ (suc (suc a) ≤ suc c)
-        more (inl e) = inl (ap suc e)
-        more (inr g) = inr (omega (arith, g))
-
-    at : (l.rank ≡ r) ⊎ (suc r ≤ l.rank) → Among l (lanes_of_ranks b each r (suc n))
-    at (inl e) = among_left l (lanes_from b r 0 each) (lanes_of_ranks b each (suc r) n) (lane_from l b r 0 each bin e (omega arith) (omega (arith, below)))
-    at (inr more) = among_right l (lanes_from b r 0 each) (lanes_of_ranks b each (suc r) n) (lane_of_ranks l b each (suc r) n bin more (omega (arith, high)) below)
+    at : (suc r ≤ l.rank → Among l (lanes_of_ranks b each (suc r) n)) → (r ≡ l.rank) ⊎ (suc r ≤ l.rank) → Among l (lanes_of_ranks b each r (suc n))
+    at rest (inl e) = among_left l (lanes_from b r 0 each) (lanes_of_ranks b each (suc r) n) (lane_from l b r 0 each bin (sym e) (omega arith) (omega (arith, below)))
+    at rest (inr more) = among_right l (lanes_from b r 0 each) (lanes_of_ranks b each (suc r) n) (rest more)
 
 lane_in_order : (ranks workers : ℕ) (l : LaneName) → IsLane ranks workers l → Among l (lanes_in_order ranks workers)
 lane_in_order ranks workers l is = kind l.bin refl is.1
@@ -197,7 +187,7 @@ lane_in_order ranks workers l is = kind l.bin refl is.1
 found : (log : List Mark) (l : LaneName) (ls : List LaneName) → Among l ls ⊎ (part l log ≡ []) → reverse (part l log) ≡ events_of l (parts_in log ls)
 found log l [] (inl h) = absurd h
 found log l [] (inr none) = ap reverse none
-found log l (m ∷ ms) h = step (part m log) refl
+found log l (m ∷ ms) h = step (found log l ms) (part m log) refl
   where
     next : part m log ≡ [] → Among l ms ⊎ (part l log ≡ [])
     next none = go h
@@ -215,22 +205,22 @@ found log l (m ∷ ms) h = step (part m log) refl
         go (inl (inr later)) = inl later
         go (inr empty) = inr empty
 
-    step : (es : List Event) → part m log ≡ es → reverse (part l log) ≡ events_of l (part_with m es ++ parts_in log ms)
-    step [] none = found log l ms (next none)
-    step (e ∷ es) has = go (same_lane m l) refl
+    step : (Among l ms ⊎ (part l log ≡ []) → reverse (part l log) ≡ events_of l (parts_in log ms)) → (es : List Event) → part m log ≡ es → reverse (part l log) ≡ events_of l (part_with m es ++ parts_in log ms)
+    step rest [] none = rest (next none)
+    step rest (e ∷ es) has = go (same_lane m l) refl
       where
         go : (b : Bool) → same_lane m l ≡ b → reverse (part l log) ≡ (if b then reverse (e ∷ es) else events_of l (parts_in log ms))
         go true same = ap reverse (ap (λ (k : LaneName). part k log) (sym (same_lane_true m l same)) ∙ has)
-        go false apart = found log l ms (other apart)
+        go false apart = rest (other apart)
 
 -- a lane with events is one of the ranks and workers
 lane_named : (ranks workers : ℕ) (log : List Mark) (l : LaneName) (e : Event) (es : List Event) → Legal ranks workers log → part l log ≡ e ∷ es → IsLane ranks workers l
 lane_named ranks workers [] l e es h has = absurd (cc)
-lane_named ranks workers (x ∷ log) l e es h has = step (same_lane x.lane l) refl has
+lane_named ranks workers (x ∷ log) l e es h has = step (lane_named ranks workers log l e es h.1) (same_lane x.lane l) refl has
   where
-    step : (b : Bool) → same_lane x.lane l ≡ b → (if b then x.event ∷ part l log else part l log) ≡ e ∷ es → IsLane ranks workers l
-    step true same is = subst (IsLane ranks workers) (same_lane_true x.lane l same) h.0.named
-    step false apart is = lane_named ranks workers log l e es h.1 is
+    step : (part l log ≡ e ∷ es → IsLane ranks workers l) → (b : Bool) → same_lane x.lane l ≡ b → (if b then x.event ∷ part l log else part l log) ≡ e ∷ es → IsLane ranks workers l
+    step rest true same is = subst (IsLane ranks workers) (same_lane_true x.lane l same) h.0.named
+    step rest false apart is = rest is
 
 pub parts_are_of_a_book : PartsAreOfABook
 parts_are_of_a_book ranks workers log range few legal = (record {

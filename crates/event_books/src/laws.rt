@@ -1,5 +1,5 @@
 //! Laws of lawful books: each clause is a law, and the body is empty.
-ghost use Rattle.event_core.specs.Books.{TakingsAreApart, NumbersAreApart, PartsAreOfABook};
+ghost use Rattle.event_books.specs.Books.{TakingsAreApart, NumbersAreApart, PartsAreOfABook};
 
 /// In a lawful book no message and no task is taken twice, and no two counted events of a rank carry the same number of
 /// one kind.

@@ -1,8 +1,8 @@
 //! Laws about books of small runs, each beside some that differ from it in one thing. Each function's contract is a law,
 //! and its body does nothing.
 ghost use Rattle.std.specs.Prelude.{[], ◌∷◌, reverse};
-ghost use Rattle.event_core.specs.Books.{IsBook, IsLawful};
-ghost use Rattle.event_core.specs.BookExamples.{hand, of_two_ranks, nothing_counted, receiver, first_main, first_worker, second_main, first_bin, second_bin, in_order, AreNoBook, whole_run, exchanged_run, of_one_main, IsLawless};
+ghost use Rattle.event_books.specs.Books.{IsBook, IsLawful};
+ghost use Rattle.event_books.specs.BookExamples.{hand, of_two_ranks, nothing_counted, receiver, first_main, first_worker, second_main, first_bin, second_bin, in_order, AreNoBook, whole_run, exchanged_run, of_one_main, IsLawless};
 
 use event_lists::small_runs_are_judged;
 

@@ -3,7 +3,7 @@ use Rattle.std.specs.Prelude.{ℕ, true, false, List, [], ◌∷◌}
 use Rattle.event_lists.specs.declared.event.Event.{Event}
 use Rattle.event_lists.specs.declared.event.Event.TheVariants.{TookTask, Put, ReadHandled, ReadRan, ReadSubmitted, ReadSent, Enter, Leave, Receipt as Receives}
 use Rattle.event_lists.specs.declared.receipt.Row.{Row}
-use Rattle.event_core.specs.Books.{PartData, BookData, IsBook, IsLawful}
+use Rattle.event_books.specs.Books.{PartData, BookData, IsBook, IsLawful}
 
 -- a hand and a bin of a rank, with its events
 abbrev pub hand : ℕ → ℕ → List Event → PartData

@@ -1,5 +1,5 @@
-use Rattle.event_core.proofs.BookExampleLemmas.{is_book, is_lawful, not_in_reverse, not_exchanged}
-use Rattle.event_core.proofs.examples.orders_of_parts_are_judged.Goals as goal
+use Rattle.event_books.proofs.BookExampleLemmas.{is_book, is_lawful, not_in_reverse, not_exchanged}
+use Rattle.event_books.proofs.examples.orders_of_parts_are_judged.Goals as goal
 
 pub returns-clause-book : goal.returns-clause-book
 returns-clause-book c = is_book

@@ -16,8 +16,8 @@ use Rattle.event_lists.specs.Legal.{IsLane, Legal}
 use Rattle.event_lists.specs.FenceRuns.{by_main, first_run}
 use Rattle.event_lists.proofs.FenceRunLemmas.{no_run}
 use Rattle.event_lists.proofs.LaneLemmas.{same_lane_true}
-use Rattle.event_core.specs.Books.{PartData, IsBook, IsBefore, HasRows, HasParts, IsLawful}
-use Rattle.event_core.specs.BookExamples.{hand, of_two_ranks, nothing_counted, receipt_with, receiver, first_main, first_worker, second_main, first_bin, second_bin, in_order, AreNoBook, whole_run, exchanged_run, of_one_main, IsLawless}
+use Rattle.event_books.specs.Books.{PartData, IsBook, IsBefore, HasRows, HasParts, IsLawful}
+use Rattle.event_books.specs.BookExamples.{hand, of_two_ranks, nothing_counted, receipt_with, receiver, first_main, first_worker, second_main, first_bin, second_bin, in_order, AreNoBook, whole_run, exchanged_run, of_one_main, IsLawless}
 
 -- an event that is a receipt has so many rows
 abbrev fits : ℕ → Event → Bool

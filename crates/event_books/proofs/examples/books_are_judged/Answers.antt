@@ -1,5 +1,5 @@
-use Rattle.event_core.proofs.BookExampleLemmas.{is_in_order, hands_by_number, bins_by_number, bins_before_hands, a_lane_twice, a_lane_without_events, no_such_lane, a_row_too_few, a_row_too_many}
-use Rattle.event_core.proofs.examples.books_are_judged.Goals as goal
+use Rattle.event_books.proofs.BookExampleLemmas.{is_in_order, hands_by_number, bins_by_number, bins_before_hands, a_lane_twice, a_lane_without_events, no_such_lane, a_row_too_few, a_row_too_many}
+use Rattle.event_books.proofs.examples.books_are_judged.Goals as goal
 
 pub returns-clause-in_order : goal.returns-clause-in_order
 returns-clause-in_order c = is_in_order

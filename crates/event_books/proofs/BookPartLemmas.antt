@@ -11,7 +11,7 @@ use Rattle.event_lists.specs.Legal.{Legal}
 use Rattle.event_lists.proofs.LaneLemmas.{same_lane_true}
 use Rattle.event_lists.proofs.CountLemmas.{numbered, on_below}
 use Rattle.event_lists.proofs.ItemLemmas.{taken_here, taken_more, took_fresh}
-use Rattle.event_core.specs.Books.{TakingsAreApart, NumbersAreApart}
+use Rattle.event_books.specs.Books.{TakingsAreApart, NumbersAreApart}
 
 -- an event of a lane's part is in the list
 part_stands : (l : LaneName) (log : List Mark) (i : ℕ) (e : Event) → slice_get (part l log) i ≡ Some e → StandsOn l e log

@@ -1,6 +1,6 @@
 //! Books: what each lane of a run wrote.
 ghost use Rattle.std.specs.Prelude.{◌≡◌, ◌<◌, ◌↔◌, [], length, reverse, slice_get, Some, IsTrue};
-ghost use Rattle.event_core.specs.Books.{IsBook};
+ghost use Rattle.event_books.specs.Books.{IsBook};
 
 use event_lists::{Event, LaneName};
 use lane_trace::LaneTrace;
@@ -15,7 +15,7 @@ pub struct LanePart {
 
 impl Model for LanePart {
     ghost use Rattle.std.specs.Prelude.{reverse};
-    ghost use Rattle.event_core.specs.Books.{PartData};
+    ghost use Rattle.event_books.specs.Books.{PartData};
 
     ghost Value = { PartData };
 
@@ -78,7 +78,7 @@ pub struct Book {
 }
 
 impl Model for Book {
-    ghost use Rattle.event_core.specs.Books.{BookData, IsBook};
+    ghost use Rattle.event_books.specs.Books.{BookData, IsBook};
 
     ghost Value = { BookData };
 
