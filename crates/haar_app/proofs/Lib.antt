@@ -1,5 +1,1 @@
-pub mod NumberLemmas
-pub mod RowLemmas
-pub mod CountLemmas
-pub mod OperationLemmas
-pub mod StepLemmas
+pub mod PlanLemmas

@@ -10,38 +10,13 @@
 //! own.
 #![tactic(auto)]
 
-mod adding;
-mod coarsening;
-mod compressing;
-mod decisions;
-mod effects;
-pub mod examples;
+mod calls;
 mod haar_app;
-mod inner_products;
-pub mod laws;
-mod lines;
-mod multiplying;
-mod names;
-mod numbers;
-mod operation;
 mod planning;
-mod printing;
-mod projecting;
-mod readings;
-mod reconstructing;
-mod refining;
 mod results;
-mod sizing;
-mod steps;
-mod texts;
-mod unit;
-mod value;
-mod visits;
 
 pub use app_core::OutOfMemory;
 pub use haar_app::HaarApp;
-pub use lines::Lines;
-pub use operation::Operation;
+pub use haar_base::{Down, Haar, Held, Operation, Side, Sides, Unit, Up, Value};
+pub use haar_lines::Lines;
 pub use results::ResultError;
-pub use unit::{Down, Haar, Held, Side, Sides, Unit, Up};
-pub use value::Value;

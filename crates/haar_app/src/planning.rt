@@ -2,11 +2,12 @@
 ghost use Rattle.std.specs.Prelude.{◌≡◌, ℕ, ◌≤◌, true, length, IfOk};
 ghost use Rattle.job_data.specs.Checks.{is_within_limits};
 ghost use Rattle.job_data.specs.Data.{data_of};
-ghost use Rattle.haar_app.specs.Operations.{is_within, are_within};
+ghost use Rattle.haar_base.specs.Operations.{is_within, are_within};
 ghost use Rattle.app_core.specs.Commands.{IsRankCount};
 
 use crate::haar_app::HaarApp;
-use crate::operation::Operation;
+use haar_base::Operation;
+use haar_steps::Commands;
 use app_core::OutOfMemory;
 use job_data::{Command, Job, Sources, Step, TreeForm};
 use job_lang::plan;
@@ -132,10 +133,10 @@ impl HaarApp {
     {
         let operations = operations_of(alloc, &job)?;
         let depth = job.depth();
+        let commands = Commands { depth, operations };
         Ok(HaarApp {
             job,
-            depth,
-            operations,
+            commands,
             map,
             ranks,
         })

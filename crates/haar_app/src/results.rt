@@ -1,9 +1,9 @@
 //! The lines of commands, from the values of their results.
 
 use crate::haar_app::HaarApp;
-use crate::texts::{inner_line, size_line};
-use crate::value::Value;
 use app_core::OutOfMemory;
+use haar_base::Value;
+use haar_lines::texts::{inner_line, size_line};
 use job_data::Command;
 use std::alloc::Global;
 use tree_key::Text;

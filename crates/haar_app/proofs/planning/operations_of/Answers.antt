@@ -1,8 +1,8 @@
 use Rattle.std.proofs.Common.{◌≡◌, ◌+◌, ◌++◌, ◌∷◌, [], length, map, ap, sym, ◌∙◌, arith, length-append}
 use Rattle.job_data.specs.Checks.{are_accepted}
 use Rattle.job_data.specs.Data.{data_of}
-use Rattle.haar_app.specs.Operations.{is_within}
-use Rattle.haar_app.proofs.OperationLemmas.{mapped_at, limits_at, few_before, within_more}
+use Rattle.haar_base.specs.Operations.{is_within}
+use Rattle.haar_app.proofs.PlanLemmas.{mapped_at, limits_at, few_before, within_more}
 use Rattle.haar_app.proofs.planning.operations_of.Goals as goal
 
 pub loop-index-preserved : goal.loop-index-preserved

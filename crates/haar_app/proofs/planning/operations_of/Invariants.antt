@@ -1,5 +1,5 @@
 use Rattle.std.proofs.Common.{◌≡◌, ◌≤◌, true, length}
-use Rattle.haar_app.specs.Operations.{are_within}
+use Rattle.haar_base.specs.Operations.{are_within}
 use Rattle.haar_app.proofs.planning.operations_of.Given as goal
 
 abbrev pub invariant-loop-index : goal.invariant-loop-index

@@ -1,6 +1,0 @@
-use Rattle.std.proofs.Common.{◌≡◌, ◌-◌, ◌++◌}
-use Rattle.haar_app.specs.Starts.{spawn_counts}
-use Rattle.haar_app.proofs.steps.push_counts.Given as goal
-
-abbrev pub invariant-loop-rank : goal.invariant-loop-rank
-invariant-loop-rank l = l.effects ++ spawn_counts l.command l.rank (l.ranks - l.rank) ≡ l.fn.effects ++ spawn_counts l.command 0 l.ranks

@@ -1,0 +1,5 @@
+pub mod Effects
+pub mod Starts
+pub mod Steps
+pub mod Laws
+pub mod Forms

@@ -1,0 +1,2 @@
+pub mod CombinationLemmas
+pub mod FormLemmas

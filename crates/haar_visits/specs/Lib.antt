@@ -1,0 +1,12 @@
+pub mod Projecting
+pub mod Refining
+pub mod Coarsening
+pub mod Compressing
+pub mod Reconstructing
+pub mod Adding
+pub mod Multiplying
+pub mod InnerProducts
+pub mod Printing
+pub mod Sizing
+pub mod Visits
+pub mod Forms
