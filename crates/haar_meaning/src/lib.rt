@@ -1,0 +1,4 @@
+//! What is right in a run of a job on trees.
+#![tactic(auto)]
+
+mod examples;
