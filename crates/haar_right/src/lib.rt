@@ -1,0 +1,2 @@
+//! What units decide for is right.
+#![tactic(auto)]
