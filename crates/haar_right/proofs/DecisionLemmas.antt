@@ -149,7 +149,7 @@ module _ (job : PlannedJob) (command : ℕ) (operation : Operation) (k : Key) (f
   )
 
   -- after the overflow
-  after_put : standing job command ≡ After → (n : Option Node) → IsRightPut job command k n
+  pub after_put : standing job command ≡ After → (n : Option Node) → IsRightPut job command k n
   after_put late None = tt
   after_put late (Some n) = put_right n (λ version before is. absurd (cc))
 

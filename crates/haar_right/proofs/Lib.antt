@@ -4,3 +4,7 @@ pub mod ReadingLemmas
 pub mod DecisionLemmas
 pub mod WrittenLemmas
 pub mod ProjectLemmas
+pub mod SourceLemmas
+pub mod RefineLemmas
+pub mod ReconstructLemmas
+pub mod CompressLemmas

@@ -72,7 +72,7 @@ use Rattle.haar_meaning.specs.Sides.{form_read, known_sum, knows_sums, side_of, 
 use Rattle.haar_meaning.specs.JobUnits.{IsVisited, IsDownUnit, IsUpUnit}
 use Rattle.haar_meaning.specs.RightDecisions.{IsRightPut, IsRightGive, IsRightVisit, IsRightCombination}
 use Rattle.haar_right.specs.Laws.{IsRightRead, IsVisitedRightly, IsCombinedRightly}
-use Rattle.haar_right.proofs.KnownLemmas.{IsKnown, before_if, version_is_over, version_is_known}
+use Rattle.haar_right.proofs.KnownLemmas.{IsKnown, before_if, version_is_over, version_is_known, version_is_tree}
 use Rattle.haar_right.proofs.PlanLemmas.{version_with, OneRead, TwoRead, Projects, projection_of, project_plan, refine_plan, Refines, Coarsens, coarsen_plan, compress_plan, Compresses, reconstruct_plan, Reconstructs, Adds, Multiplies, Inners, add_plan, mul_plan, inner_plan}
 use Rattle.haar_right.proofs.ReadingLemmas.{HasCell, leaf_in, leaf_read, sums_read, root_sum, root_sums_read, child_key, none_below, leaf_from, interior_from, child_sides, sides_unknown, sides_below, leaf_children, sums_children}
 use Rattle.haar_right.proofs.DecisionLemmas.{side_is, side_from, read_is_some, cell_is, tree_is_known, known_or_after, fits_of, child_is_key_of, put_right, give_right, given_before, given_over, visited_by, is_visited, AreSides, IsDecision, whole_visit, after_decision, after_give, FirstOf, SecondOf, NothingSecond, one_side, two_sides}
@@ -80,7 +80,7 @@ use Rattle.haar_right.proofs.WrittenLemmas.{some_of, stored_branch, stored_leaf,
 use Rattle.haar_right.proofs.SourceLemmas.{leaf_found, sums_found, root_sums_found, known_source}
 use Rattle.std.proofs.Common.{length, get_or}
 use Rattle.tree_model.specs.Commands.{Command}
-use Rattle.job_data.specs.Checks.{has_names}
+use Rattle.job_data.specs.Checks.{has_names, is_within_limits}
 use Rattle.job_data.proofs.CheckLemmas.{accepted_at}
 use Rattle.haar_meaning.specs.PlannedJobs.{HasPlan, IsPlan}
 use Rattle.std.specs.Prelude.{take}
@@ -215,16 +215,32 @@ module _ (job : PlannedJob) (planned : IsPlannedJob job) (command level source :
 
 pub refine_visited : (level source : ℕ) → IsVisitedRightly (Refine level source)
 refine_visited level source job u first second planned is read other =
+    let place = fits_of job.depth u.key is.key in
+    let p = plan job planned u.command level source is.command.at in
     whole_visit job u.command (Refine level source) u.key place is.key is.command (visit_refined job.depth level u.key u.first first)
     (visited job.depth (Refine level source) u.key (record { first = u.first; second = u.second }) first second refl)
-    (one_side job u.command (Refine level source) u.key place (visit_refined job.depth level u.key u.first first) (read_is_some job Reconstructed source t0 plan0.read) refl first_known (nothing_leaf job.depth level u.key (leaf_at u.first first)))
-    (⊎_elim (λ before. early before) (λ late. after_decision job u.command (Refine level source) u.key place is.command.at late (visit_refined job.depth level u.key u.first first)) (known_or_after job u.command source plan0.earlier))
+    (one_side job u.command (Refine level source) u.key place (visit_refined job.depth level u.key u.first first) (read_is_some job Reconstructed source p.tree p.read) refl first_known (nothing_leaf job.depth level u.key (leaf_at u.first first)))
+    (⊎_elim (early place) (λ late. after_decision job u.command (Refine level source) u.key place is.command.at late (visit_refined job.depth level u.key u.first first)) (known_or_after job u.command source p.earlier))
   where
-    place : u.key.at < 2 ^ u.key.level
-    place = fits_of job.depth u.key is.key
+    first_known : (t : Tree) → standing job source ≡ Before → tree_in Reconstructed (version_of job source) ≡ Some t → FirstOf (Refine level source) t u.key (visit_refined job.depth level u.key u.first first)
+    first_known t before read_t =
+        let known = known_source job Reconstructed source t planned before read_t in
+        let found = leaf_found job (Refine level source) source u.key u.first first t planned before read_t read_t is.first read in
+        let key_in : is_key_of t.depth u.key ≡ true = subst (λ (d : ℕ). is_key_of d u.key ≡ true) (sym known.depth_is) is.key in
+        subst (λ (d : ℕ). FirstOf (Refine level source) t u.key (refine_leaf d level u.key (leaf_at u.first first))) known.depth_is (leaf_first level source t u.key known.tree key_in (leaf_at u.first first) found)
 
-    plan0 : Refines job planned u.command level source
-    plan0 = refine_plan job planned u.command level source (planned.plans u.command (Refine level source) is.command.at)
+    early : (place : u.key.at < 2 ^ u.key.level) → standing job source ≡ Before → IsDecision job u.command (Refine level source) u.key place (visit_refined job.depth level u.key u.first first)
+    early place before =
+        let p = plan job planned u.command level source is.command.at in
+        let known = known_source job Reconstructed source p.tree planned before p.read in
+        let found = leaf_found job (Refine level source) source u.key u.first first p.tree planned before p.read p.read is.first read in
+        subst (λ (leaf : Leaf). IsDecision job u.command (Refine level source) u.key place (refine_leaf job.depth level u.key leaf)) (sym found)
+        (decision job planned u.command level source is.command.at u.key place is.key is.visited known (p.tree.shape (child u.key false)) refl)
 
-    t0 : Tree
-    t0 = plan0.tree
+pub refine_combined : (level source : ℕ) → IsCombinedRightly (Refine level source)
+refine_combined level source job u left right planned is first second =
+    let p = plan job planned u.command level source is.command.at in
+    done_right job (Refine level source) u left right (version_with Reconstructed (refined level p.tree)) is p.written (version_is_tree job u.command (version_with Reconstructed (refined level p.tree)) p.written).depth_is
+    (λ k v meant. subst (λ (o : Option Version). IfSome o (λ version. v ≡ Done)) p.written meant)
+    (some_of (λ (version : Version). Done ≡ Done) (version_of job u.command) (version_with Reconstructed (refined level p.tree)) p.written refl)
+    first second
