@@ -8,3 +8,4 @@ pub mod SourceLemmas
 pub mod RefineLemmas
 pub mod ReconstructLemmas
 pub mod CompressLemmas
+pub mod OverflowLemmas
