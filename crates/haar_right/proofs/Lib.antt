@@ -9,3 +9,5 @@ pub mod RefineLemmas
 pub mod ReconstructLemmas
 pub mod CompressLemmas
 pub mod OverflowLemmas
+pub mod TwoTreeLemmas
+pub mod AddLemmas
