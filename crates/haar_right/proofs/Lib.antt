@@ -11,3 +11,4 @@ pub mod CompressLemmas
 pub mod OverflowLemmas
 pub mod TwoTreeLemmas
 pub mod AddLemmas
+pub mod MulLemmas
