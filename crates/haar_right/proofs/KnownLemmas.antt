@@ -158,3 +158,13 @@ version_is_over job (suc n) version at e =
     let same : suc n ≡ 1 + n = omega arith in
     let over = over_from job.depth no_versions 1 job.commands n of.c of.at (subst (λ (m : ℕ). standing_to m (first_overflow (job_of job)) ≡ At) same at) in
     version_overflows job.depth (versions_behind job.depth (take n job.commands)) of.c version true of.gives over
+
+-- a command that writes no version doesn't overflow
+pub no_version_not_over : {A : Type 0} (job : PlannedJob) (number : ℕ) (c : Command) → command_at job.commands number ≡ Some c → version_of job number ≡ None → standing job number ≡ At → A
+no_version_not_over job zero c there none at = none_is c there
+no_version_not_over job (suc n) c there none at = absurd (
+    let same : suc n ≡ 1 + n = omega arith in
+    let over = over_from job.depth no_versions 1 job.commands n c there (subst (λ (m : ℕ). standing_to m (first_overflow (job_of job)) ≡ At) same at) in
+    let own : written job.depth (versions_behind job.depth (take n job.commands)) c ≡ None = sym (ap (option_and_then (written job.depth (versions_behind job.depth (take n job.commands)))) there) ∙ none in
+    let fine : command_overflows job.depth (versions_behind job.depth (take n job.commands)) c ≡ false = ap (λ (o : Option Version). option_map_or (λ (v : Version). overflows v.tree) o false) own in
+    cc)

@@ -12,3 +12,4 @@ pub mod OverflowLemmas
 pub mod TwoTreeLemmas
 pub mod AddLemmas
 pub mod MulLemmas
+pub mod InnerLemmas
