@@ -13,3 +13,4 @@ pub mod TwoTreeLemmas
 pub mod AddLemmas
 pub mod MulLemmas
 pub mod InnerLemmas
+pub mod CoarsenLemmas
