@@ -104,7 +104,7 @@ use Rattle.haar_meaning.specs.RightValues.{inner_value as meant_value}
 
 -- what is given
 
-root_key : (k : Key) → k.level ≡ 0 → k.at < 2 ^ k.level → k ≡ root
+pub root_key : (k : Key) → k.level ≡ 0 → k.at < 2 ^ k.level → k ≡ root
 root_key k top within = same_key k root top (let one : k.at < 1 = subst (λ (n : ℕ). k.at < 2 ^ n) top within in omega (arith, one))
 
 module _ (f g : Tree) (tree_f : IsTree f) (tree_g : IsTree g) (same : f.depth ≡ g.depth) (shallow : f.depth ≤ max_depth) (values_f : HasValues f) (values_g : HasValues g) where
@@ -130,12 +130,12 @@ module _ (f g : Tree) (tree_f : IsTree f) (tree_g : IsTree g) (same : f.depth �
 
 -- what the children's units know of one tree, whatever is read of the other
 
-entries_is : (operation : Operation) (t : Tree) (k : Key) → IsTree t → knows_sums operation ≡ false → t.shape (child k false) ≡ true → (entry ≡ side_of operation t (child k false)) × (entry ≡ side_of operation t (child k true))
+pub entries_is : (operation : Operation) (t : Tree) (k : Key) → IsTree t → knows_sums operation ≡ false → t.shape (child k false) ≡ true → (entry ≡ side_of operation t (child k false)) × (entry ≡ side_of operation t (child k true))
 entries_is operation t k tree unknown cut =
     let same = sides_unknown operation t k tree unknown cut in
     (sym (ap (λ (c : ChildSides). c.left) same), sym (ap (λ (c : ChildSides). c.right) same))
 
-cut_of : (t : Tree) (k : Key) (d : ℤ) → difference_at t k ≡ Some d → t.shape (child k false) ≡ true
+pub cut_of : (t : Tree) (k : Key) (d : ℤ) → difference_at t k ≡ Some d → t.shape (child k false) ≡ true
 cut_of t k d e = go (t.shape k) (t.shape (child k false)) e
   where
     go : (inside cut : Bool) → (if inside && cut then Some (difference t k) else None) ≡ Some d → cut ≡ true
@@ -171,11 +171,11 @@ module _ (operation : Operation) (t : Tree) (k : Key) (depth : ℕ) (sum : ℤ) 
           here false = tt
 
 -- the sums at any key, of the tree or below a leaf
-record SumsAt (root : Bool) (side : Side) (cell : Option Node) (d : Option ℤ) : Type 0 where
-  sum : ℤ
-  is : sums_at root side cell ≡ Some (sums sum d)
+pub record SumsAt (root : Bool) (side : Side) (cell : Option Node) (d : Option ℤ) : Type 0 where
+  pub sum : ℤ
+  pub is : sums_at root side cell ≡ Some (sums sum d)
 
-any_sums : (job : PlannedJob) (operation : Operation) (source : ℕ) (k : Key) (side : Side) (cell : Option Node) (t : Tree) → standing job source ≡ Before → knows_sums operation ≡ false
+pub any_sums : (job : PlannedJob) (operation : Operation) (source : ℕ) (k : Key) (side : Side) (cell : Option Node) (t : Tree) → standing job source ≡ Before → knows_sums operation ≡ false
     → tree_in (form_read operation) (version_of job source) ≡ Some t → tree_in Compressed (version_of job source) ≡ Some t
     → IsRightSide job operation source k side → IsRightRead job source k side cell → SumsAt (k.level == 0) side cell (difference_at t k)
 any_sums job operation source k side cell t before unknown read read_as right_side right_read = go (t.shape k) refl
@@ -247,7 +247,7 @@ module _ (job : PlannedJob) (planned : IsPlannedJob job) (command left right : �
     decision true false in_f in_g is_f is_g = stops ((λ i. is_interior f.shape k && (in_g i && is_g i)) ∙ and_right (is_interior f.shape k) false refl)
     decision false cut_g in_f in_g is_f is_g = stops (λ i. (in_f i && is_f i) && is_interior g.shape k)
 
-diff_is : (t : Tree) (k : Key) (cut : Bool) → t.shape k ≡ true → t.shape (child k false) ≡ cut → difference_at t k ≡ (if cut then Some (difference t k) else None)
+pub diff_is : (t : Tree) (k : Key) (cut : Bool) → t.shape k ≡ true → t.shape (child k false) ≡ cut → difference_at t k ≡ (if cut then Some (difference t k) else None)
 diff_is t k cut inside is = λ i. if inside i && is i then Some (difference t k) else None
 
 pub inner_visited : (left right : ℕ) → IsVisitedRightly (Inner left right)

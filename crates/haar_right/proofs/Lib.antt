@@ -14,3 +14,4 @@ pub mod AddLemmas
 pub mod MulLemmas
 pub mod InnerLemmas
 pub mod CoarsenLemmas
+pub mod LineLemmas

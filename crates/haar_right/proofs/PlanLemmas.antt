@@ -48,6 +48,11 @@ split_at [] n c e = none_is c e
 split_at (x ∷ cs) zero c e = ap (λ (y : Command). y ∷ cs) (some_is x c e)
 split_at (x ∷ cs) (suc n) c e = ap (λ (ys : List Command). x ∷ ys) (split_at cs n c e)
 
+take_drop : (cs : List Command) (n : ℕ) → take n cs ++ drop n cs ≡ cs
+take_drop cs zero = refl
+take_drop [] (suc n) = refl
+take_drop (x ∷ cs) (suc n) = ap (λ (ys : List Command). x ∷ ys) (take_drop cs n)
+
 length_at : (cs : List Command) (n : ℕ) (c : Command) → slice_get cs n ≡ Some c → length (take n cs) ≡ n
 length_at [] n c e = none_is c e
 length_at (x ∷ cs) zero c e = refl
@@ -321,4 +326,59 @@ module _ (job : PlannedJob) (planned : IsPlannedJob job) where
       go (Command.Inner f g) at plan =
           two_read n (Command.Inner f g) f g left right Compressed (λ o. None) (option_map (λ p. over (intersection p.0.shape p.1.shape)))
               at plan.0 plan.1 (meaning_at n (Command.Inner f g) at).reads refl refl
+      go _ at plan = absurd plan
+
+  abbrev pub Prints : ℕ → ℕ → TreeForm → Type 0
+  Prints command source form = OneRead job command source (form_of form) (λ t. None) (λ t. Some (over t.shape))
+
+  in_form : (form : Form) (o : Option Version) → version_form o ≡ Some form → is_some (tree_in form o) ≡ true
+  in_form form None e = absurd (cc)
+  in_form form (Some version) e = subst (λ (f : Form). is_some (tree_in f (Some version)) ≡ true) (some_is version.form form e) (own version.form)
+    where
+      own : (f : Form) → is_some (if same_form f f then Some version.tree else None) ≡ true
+      own Reconstructed = refl
+      own Compressed = refl
+
+  pub print_plan : (command source : ℕ) (form : TreeForm) (printed : Name) → HasPlan job.commands command (Print source form printed) → Prints command source form
+  print_plan zero source form printed plan = none_is plan.command plan.at
+  print_plan (suc n) source form printed plan = go plan.command plan.at plan.plan
+    where
+      go : (c : Command) → slice_get job.commands n ≡ Some c → IsPlan (take n job.commands) c (Print source form printed) → Prints (suc n) source form
+      go (Command.Print name) at plan =
+          let forms = job_forms (job_of job) (take n job.commands) (drop n job.commands) name planned.checked (sym (take_drop job.commands n)) in
+          let s = source_of n (Command.Print name) name source (form_of form) at plan.0 (in_form (form_of form) (before n name) (forms ∙ plan.1)) in
+          record {
+            earlier = s.earlier;
+            tree = s.tree;
+            read = s.read;
+            written = ap (option_and_then (written job.depth (before n))) at;
+            visited = ap (option_and_then (visits_of job.depth (before n))) at ∙ ap (option_map (λ (version : Version). over version.tree.shape)) (version_in (form_of form) (before n name) s.tree s.named);
+          }
+      go _ at plan = absurd plan
+
+  pub record Counts (command source : ℕ) : Type 0 where
+    pub earlier : source < command
+    pub version : Version
+    pub is : version_of job source ≡ Some version
+    pub written : version_of job command ≡ None
+
+  any_version : (o : Option Version) → is_some (option_map (λ (version : Version). version.tree) o) ≡ true → (v : Version) × (o ≡ Some v)
+  any_version None e = absurd (cc)
+  any_version (Some v) e = (v, refl)
+
+  pub size_plan : (command source : ℕ) → HasPlan job.commands command (Size source) → Counts command source
+  size_plan zero source plan = none_is plan.command plan.at
+  size_plan (suc n) source plan = go plan.command plan.at plan.plan
+    where
+      go : (c : Command) → slice_get job.commands n ≡ Some c → IsPlan (take n job.commands) c (Size source) → Counts (suc n) source
+      go (Command.Size name) at plan =
+          let reads = (and_parts (is_some (option_map (λ (version : Version). version.tree) (before n name))) true (meaning_at n (Command.Size name) at).reads).0 in
+          let found = any_version (before n name) reads in
+          let below : version_behind (take n job.commands) name < suc n = version_below 1 0 (suc n) (take n job.commands) name (omega arith) (omega (arith, length_at job.commands n (Command.Size name) at)) in
+          record {
+            earlier = subst (λ (m : ℕ). m < suc n) plan below;
+            version = found.0;
+            is = sym (name_stands job planned.checked name n ∙ ap (version_of job) plan) ∙ found.1;
+            written = ap (option_and_then (written job.depth (before n))) at;
+          }
       go _ at plan = absurd plan
