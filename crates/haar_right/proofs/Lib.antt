@@ -15,3 +15,4 @@ pub mod MulLemmas
 pub mod InnerLemmas
 pub mod CoarsenLemmas
 pub mod LineLemmas
+pub mod PrintLemmas
