@@ -16,3 +16,4 @@ pub mod InnerLemmas
 pub mod CoarsenLemmas
 pub mod LineLemmas
 pub mod PrintLemmas
+pub mod VisitLemmas
