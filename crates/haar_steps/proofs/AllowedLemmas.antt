@@ -1,5 +1,5 @@
 -- What units do is allowed by their labels.
-use Rattle.std.proofs.Common.{◌≡◌, ℕ, zero, suc, ◌+◌, ◌*◌, ◌/◌, ◌^◌, ◌≤◌, ◌<◌, Bool, true, false, cond, ◌||◌, List, [], ◌∷◌, ◌++◌, map, Option, Some, None, refl, sym, ap, ◌∙◌, subst, arith, nat_lt, nat_le, ℤ}
+use Rattle.std.proofs.Common.{◌≡◌, ℕ, zero, suc, ◌+◌, ◌*◌, ◌/◌, ◌^◌, ◌≤◌, ◌<◌, Bool, true, false, if◌then◌else◌, ◌||◌, List, [], ◌∷◌, ◌++◌, map, Option, Some, None, refl, sym, ap, ◌∙◌, subst, arith, nat_lt, nat_le, ℤ}
 use Rattle.std.specs.Prelude.{is_some, slice_get}
 use Rattle.std.specs.Option.{option_map}
 use Rattle.std.proofs.lemmas.Bool.{cond-true, cond-false, lt-ltb, le-leb}
@@ -52,7 +52,7 @@ word_at_is ops owners ranks zero operation at = absurd (cc)
 word_at_is ops owners ranks (suc before) operation at = slice_get-map word_of ops before ∙ ap (option_map word_of) at
 
 module _ (ops : List Operation) (owners : OwnerMap) (ranks : ℕ) (some : 1 ≤ ranks) where
-  job : DistributedJob
+  abbrev job : DistributedJob
   job = job_of ops owners ranks
 
   put_first : (command : ℕ) (key : Key) (n : Option Node) (b : Bool) (es : List HaarEffect) (rest : List Outline) → is_some n ≡ b → told owners ranks es ≡ rest
@@ -110,21 +110,21 @@ allowed depth ops owners made ranks (Down u) given deep count form =
     let few : u.key.level ≤ 16 = omega (arith, form.within, deep) in
     let known = known_is ops u.command (nat_le u.key.level depth) form.operation form.at (le-leb u.key.level depth form.within) in
     let is : IsVisitOf depth u.key (word_of form.operation) (visit_of depth ops u given.cells) =
-        subst (λ op. IsVisitOf depth u.key (word_of form.operation) (visit depth op u.key (record { first = u.first; second = u.second }) (first_cell u.first given.cells) (second_cell u.first given.cells)))
-            (sym known) (visited depth form.operation u.key (record { first = u.first; second = u.second }) (first_cell u.first given.cells) (second_cell u.first given.cells) form.one) in
+    subst (λ op. IsVisitOf depth u.key (word_of form.operation) (visit depth op u.key (record { first = u.first; second = u.second }) (first_cell u.first given.cells) (second_cell u.first given.cells)))
+    (sym known) (visited depth form.operation u.key (record { first = u.first; second = u.second }) (first_cell u.first given.cells) (second_cell u.first given.cells) form.one) in
     record {
       operation = word_of form.operation;
       at = word_at_is ops owners ranks u.command form.operation form.at;
       action = visit_action (visit_of depth ops u given.cells);
-      fit = on_trees (visit_of depth ops u given.cells) form.one;
+      fit = on_trees (word_of form.operation) (visit_of depth ops u given.cells) form.one;
       part = part (visit_of depth ops u given.cells);
       key = λ _. least_place u.key;
       lists = visit_told ops owners ranks count.0 u.command u.key few form.place depth deep (word_of form.operation) (visit_of depth ops u given.cells) is;
     }
   where
-    on_trees : {word : Word} (v : Visit) → is_on_trees word ≡ true → fits word (visit_action v) ≡ true
-    on_trees (visits.Give n value) on = on
-    on_trees (visits.Split n left right held) on = on
+    on_trees : (word : Word) (v : Visit) → is_on_trees word ≡ true → fits word (visit_action v) ≡ true
+    on_trees word (visits.Give n value) on = on
+    on_trees word (visits.Split n left right held) on = on
 
     part : (v : Visit) → 0 ≡ part_of (visit_action v)
     part (visits.Give n value) = refl
@@ -134,21 +134,21 @@ allowed depth ops owners made ranks (Up u) given deep count form =
     let level : u.key.level < 16 = omega (arith, form.1, deep) in
     let known = known_is ops u.command (nat_lt u.key.level depth) at.operation at.at (lt-ltb u.key.level depth form.1) in
     let is : IsCombinationOf (word_of at.operation) (combination_of depth ops u given.values) =
-        subst (λ op. IsCombinationOf (word_of at.operation) (combine depth op u.key u.held (pair_of given.values).0 (pair_of given.values).1))
-            (sym known) (combined depth at.operation u.key u.held (pair_of given.values).0 (pair_of given.values).1 at.one) in
+    subst (λ op. IsCombinationOf (word_of at.operation) (combine depth op u.key u.held (pair_of given.values).0 (pair_of given.values).1))
+    (sym known) (combined depth at.operation u.key u.held (pair_of given.values).0 (pair_of given.values).1 at.one) in
     record {
       operation = word_of at.operation;
       at = word_at_is ops owners ranks u.command at.operation at.at;
       action = combination_action (combination_of depth ops u given.values);
-      fit = fit (combination_of depth ops u given.values) at.one is;
+      fit = fit (word_of at.operation) (combination_of depth ops u given.values) at.one is;
       part = part (combination_of depth ops u given.values);
       key = λ _. least_place u.key;
       lists = combination_told ops owners ranks count.0 u.command u.key (omega (arith, level)) at.place level (word_of at.operation) (combination_of depth ops u given.values) is;
     }
   where
-    fit : {word : Word} (c : Combination) → is_on_trees word ≡ true → IsCombinationOf word c → fits word (combination_action c) ≡ true
-    fit (combinations.Give n value) on form = on
-    fit (combinations.Merge sum) on form = form
+    fit : (word : Word) (c : Combination) → is_on_trees word ≡ true → IsCombinationOf word c → fits word (combination_action c) ≡ true
+    fit word (combinations.Give n value) on form = on
+    fit word (combinations.Merge sum) on form = form
 
     part : (c : Combination) → 1 ≡ part_of (combination_action c)
     part (combinations.Give n value) = refl

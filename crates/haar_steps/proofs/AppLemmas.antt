@@ -94,7 +94,7 @@ module _ (depth : ℕ) (ops : List Operation) (owners : OwnerMap) (made ranks : 
   reads_at_home (Total command number) n form (k, lt, e) = absurd (omega (arith, lt))
 
   -- the label of a unit determines its home
-  label_home : ℕ → ℕ → ℕ
+  abbrev label_home : ℕ → ℕ → ℕ
   label_home (suc (suc (suc zero))) place = rank_within ranks (Some place)
   label_home (suc (suc (suc (suc part)))) place = rank_within ranks (Some 0)
   label_home _ place = place_owner (by_map owners ranks) place
@@ -135,7 +135,7 @@ module _ (depth : ℕ) (ops : List Operation) (owners : OwnerMap) (made ranks : 
 -- starts
 
 module _ (ops : List Operation) (owners : OwnerMap) (ranks command : ℕ) (count : IsRankCount ranks) where
-  begins : List Outline
+  abbrev begins : List Outline
   begins = told owners ranks (starting_of ops command ranks)
 
   laws : KeepsStartLaws (job_of ops owners ranks) command

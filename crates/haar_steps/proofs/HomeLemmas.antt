@@ -1,28 +1,30 @@
 -- The ranks of keys' units and of futures are those of the job as plain data.
-use Rattle.std.proofs.Common.{◌≡◌, ◌⊎◌, ℕ, zero, suc, ◌+◌, ◌*◌, ◌/◌, ◌%◌, ◌^◌, ◌≤◌, ◌<◌, Bool, true, false, cond, ◌&&◌, Option, Some, None, refl, sym, ap, ◌∙◌, subst, ⊎_elim, arith, nat_lt, nat_le}
+use Rattle.std.proofs.Common.{◌≡◌, ◌≢◌, ◌⊎◌, ℕ, zero, suc, ◌+◌, ◌*◌, ◌/◌, ◌%◌, ◌^◌, ◌≤◌, ◌<◌, Bool, true, false, cond, if◌then◌else◌, ◌&&◌, Option, Some, None, refl, sym, ap, ◌∙◌, subst, ⊎_elim, arith, nat_lt, nat_le}
 use Rattle.std.proofs.lemmas.Bool.{cases_lt, cond-true, cond-false, lt-ltb, le-ltb, le-leb, lt-leb, ltb-true, leb-true, and_parts, and_from}
 use Rattle.std.proofs.lemmas.Nat.{pow-add, pow_pos, mod_below}
 use Rattle.std.proofs.Math.Pow.{pow_mono}
 use Rattle.std.proofs.Math.Nat.{div-lt_iff_lt-mul, mul-lt-mul_of_pos_right}
+use Rattle.app_core.specs.declared.Label.{Label}
 use Rattle.app_core.specs.Homes.{rank_within}
-use Rattle.tree_key.specs.Keys.{Key, IsKey, root, child, place_of}
+use Rattle.std.specs.Option.{unwrap_or}
+use Rattle.tree_key.specs.Keys.{Key, IsKey, child, parent, place_of}
 use Rattle.owner_map.specs.declared.OwnerMap.{OwnerMap}
 use Rattle.owner_map.specs.declared.OwnerMap.TheVariants.{Block, Spread, Level}
-use Rattle.owner_map.specs.Owners.{owner, is_spread_by_itself}
+use Rattle.owner_map.specs.Owners.{owner, spread, is_spread_by_itself}
 use Rattle.haar_units.specs.Distributions.{by_map, place_owner}
 use Rattle.haar_units.specs.Places.{key_at}
 use Rattle.haar_units.proofs.PlaceLemmas.{places_have_keys, keys_have_places}
-use Rattle.haar_base.specs.Units.{place_rule, place_home}
+use Rattle.haar_base.specs.Units.{place_rule, place_home, kept_rule_by, kept_at}
 
 -- a key's owner is one of the ranks
 pub owner_below : (owners : OwnerMap) (k : Key) (ranks : ℕ) → k.at < 2 ^ k.level → 1 ≤ ranks → owner owners k ranks < ranks
 owner_below Block k ranks within least =
     let less : k.at * ranks < 2 ^ k.level * ranks = mul-lt-mul_of_pos_right within least in
-    (div-lt_iff_lt-mul {k.at * ranks} {ranks} {2 ^ k.level} (pow_pos k.level)).1 (omega (arith, less))
+    (div-lt_iff_lt-mul {k = 2 ^ k.level} {x = k.at * ranks} {y = ranks} (pow_pos k.level)).1 (omega (arith, less))
 owner_below Spread k ranks within least = mod_below _ ranks least
 owner_below Level k ranks within least = by_case (is_spread_by_itself k)
   where
-    by_case : (b : Bool) → cond b _ _ < ranks
+    by_case : (b : Bool) → cond b (spread k ranks) (spread (unwrap_or (parent k) k) ranks) < ranks
     by_case true = mod_below _ ranks least
     by_case false = mod_below _ ranks least
 
@@ -86,3 +88,27 @@ future_kept owners place ranks some below = ⊎_elim
     (λ one. let none : place / 2 ≡ 0 = omega (arith, one) in
     ap (λ (p : ℕ). place_home owners p ranks) none ∙ sym (cond-false (nat_lt 1 place) (place_owner (by_map owners ranks) (place / 2)) 0 (le-ltb 1 place one)))
     (cases_lt 1 place)
+
+-- the rank that keeps a future, by the key above
+pub kept_by_key : (owners : OwnerMap) (future : Label) (ranks : ℕ) (k : Key) → future.part ≡ 0 → IsKey k → place_of k ≡ future.place / 2 → rank_within ranks (Some (owner owners k ranks)) ≡ kept_at owners future ranks
+kept_by_key owners future ranks k part is place =
+    ap (rank_within ranks) (sym (ap (λ (n : ℕ). kept_rule_by owners n future.place ranks) part
+    ∙ ap (λ (p : ℕ). place_rule owners p ranks) (sym place)
+    ∙ rule_there owners (place_of k) ranks (least_place k) (place_below k is.level is.at)
+    ∙ ap (λ (j : Key). Some (owner owners j ranks)) (keys_have_places k is.at)))
+
+-- a place that no key has
+rule_missing : (owners : OwnerMap) (place ranks : ℕ) → ((k : Key) → IsKey k → place_of k ≢ place) → place_rule owners place ranks ≡ None
+rule_missing owners place ranks none = by_test (nat_le 1 place && nat_lt place (2 ^ 17)) refl
+  where
+    by_test : (b : Bool) → (nat_le 1 place && nat_lt place (2 ^ 17)) ≡ b → place_rule owners place ranks ≡ None
+    by_test true e =
+        let p = and_parts (nat_le 1 place) (nat_lt place (2 ^ 17)) e in
+        let least : 1 ≤ place = leb-true 1 place p.0 in
+        let is = places_have_keys place least in
+        absurd (none (key_at place) (record { level = level_below place least (ltb-true place (2 ^ 17) p.1); at = is.1 }) is.0)
+    by_test false e = cond-false (nat_le 1 place && nat_lt place (2 ^ 17)) _ None e
+
+pub kept_by_none : (owners : OwnerMap) (future : Label) (ranks : ℕ) → future.part ≡ 0 → ((k : Key) → IsKey k → place_of k ≢ future.place / 2) → 0 ≡ kept_at owners future ranks
+kept_by_none owners future ranks part none =
+    ap (rank_within ranks) (sym (ap (λ (n : ℕ). kept_rule_by owners n future.place ranks) part ∙ rule_missing owners (future.place / 2) ranks none))

@@ -147,7 +147,10 @@ pub fn combination_effects(
 }
 
 /// A list of one effect.
-pub fn one_effect(alloc: Global, effect: Effect<Unit, Value, Node>) -> Result<HaarEffects, OutOfMemory>
+pub fn one_effect(
+    alloc: Global,
+    effect: Effect<Unit, Value, Node>,
+) -> Result<HaarEffects, OutOfMemory>
     ensures { IfOk result (λ e. e ≡ effect ∷ []) }
 {
     let mut effects = Effects::new(alloc);

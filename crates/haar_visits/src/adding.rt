@@ -9,8 +9,7 @@ use crate::compressing::compressed_node;
 use haar_base::decisions::{Visit, bad_visit};
 use haar_base::numbers::{coefficient, zero};
 use haar_base::readings::{ChildSides, Sums, nothing_held, sum_sides, sums_at};
-use haar_base::Sides;
-use haar_base::Value;
+use haar_base::{Sides, Value};
 use haar_node::{Coefficient, Node, combine_add};
 use tree_key::Key;
 

@@ -4,8 +4,7 @@ ghost use Rattle.haar_visits.specs.Coarsening.{split_entries, visit_coarsened, m
 
 use haar_base::decisions::{Combination, Visit, bad_combination, bad_visit};
 use haar_base::readings::{Leaf, entry, leaf_at, nothing_held, one};
-use haar_base::Side;
-use haar_base::Value;
+use haar_base::{Side, Value};
 use haar_node::{Coefficient, Node, join};
 use tree_key::Key;
 

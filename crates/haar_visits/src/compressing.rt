@@ -5,8 +5,7 @@ ghost use Rattle.haar_visits.specs.Compressing.{below_node, compressed_node, vis
 use crate::coarsening::split_entries;
 use haar_base::decisions::{Combination, Visit, bad_combination, bad_visit};
 use haar_base::readings::{Leaf, Sums, leaf_at};
-use haar_base::Side;
-use haar_base::Value;
+use haar_base::{Side, Value};
 use haar_node::{Coefficient, Node, join};
 use tree_key::Key;
 

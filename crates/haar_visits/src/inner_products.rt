@@ -7,8 +7,7 @@ ghost use Rattle.haar_visits.specs.InnerProducts.{whole_product, given_product, 
 
 use haar_base::decisions::{Combination, Visit, bad_visit};
 use haar_base::readings::{Sums, entry, sums_at};
-use haar_base::{Haar, Held, Sides};
-use haar_base::Value;
+use haar_base::{Haar, Held, Sides, Value};
 use haar_node::{Coefficient, Node, combine_inner, finish_inner};
 use tree_key::Key;
 

@@ -6,8 +6,7 @@ ghost use Rattle.haar_visits.specs.Multiplying.{is_leaf_sum, leaf_product, produ
 use crate::adding::{split_two, width};
 use haar_base::decisions::{Visit, bad_visit};
 use haar_base::readings::{Leaf, leaf_at, leaf_sides};
-use haar_base::Sides;
-use haar_base::Value;
+use haar_base::{Sides, Value};
 use haar_node::{Coefficient, Node, combine_mul};
 use tree_key::Key;
 

@@ -2,13 +2,12 @@
 ghost use Rattle.std.specs.Prelude.{◌≡◌, IfOk, pos};
 ghost use Rattle.haar_visits.specs.Printing.{heading, headed, print_key, print_cut, print_leaf, print_by, print_sums, visit_printed, own_line, print_rows, print_right, print_value, combine_printed};
 
-use haar_base::decisions::{Combination, Visit, bad_visit};
-use haar_lines::Lines;
-use haar_base::readings::{Leaf, Sums, entry, leaf_at, no_haar, nothing_held, one, sums_at};
-use haar_lines::texts::{compressed_heading, key_line, reconstructed_heading};
-use haar_base::{Haar, Held, Side};
-use haar_base::Value;
 use app_core::OutOfMemory;
+use haar_base::decisions::{Combination, Visit, bad_visit};
+use haar_base::readings::{Leaf, Sums, entry, leaf_at, no_haar, nothing_held, one, sums_at};
+use haar_base::{Haar, Held, Side, Value};
+use haar_lines::Lines;
+use haar_lines::texts::{compressed_heading, key_line, reconstructed_heading};
 use haar_node::{Coefficient, Node};
 use job_data::TreeForm;
 use job_words::Name;

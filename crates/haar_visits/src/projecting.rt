@@ -9,8 +9,7 @@ ghost use Rattle.haar_visits.specs.Projecting.{projection_of, projected_sum, no_
 
 use haar_base::decisions::Visit;
 use haar_base::readings::nothing_held;
-use haar_base::{Side, Sides};
-use haar_base::Value;
+use haar_base::{Side, Sides, Value};
 use haar_node::{Coefficient, Func, Node};
 use tree_key::Key;
 

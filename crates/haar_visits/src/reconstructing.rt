@@ -2,11 +2,10 @@
 ghost use Rattle.std.specs.Prelude.{◌≡◌};
 ghost use Rattle.haar_visits.specs.Reconstructing.{reconstruct_by, visit_reconstructed};
 
+use crate::refining::split_one;
 use haar_base::decisions::{Visit, bad_visit};
 use haar_base::readings::{Sums, sum_sides, sums_at};
-use crate::refining::split_one;
-use haar_base::Side;
-use haar_base::Value;
+use haar_base::{Side, Value};
 use haar_node::Node;
 use tree_key::Key;
 

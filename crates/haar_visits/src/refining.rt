@@ -4,8 +4,7 @@ ghost use Rattle.haar_visits.specs.Refining.{split_one, refine_cut, visit_refine
 
 use haar_base::decisions::{Visit, bad_visit};
 use haar_base::readings::{ChildSides, Leaf, leaf_at, leaf_sides, nothing_held, one};
-use haar_base::Side;
-use haar_base::Value;
+use haar_base::{Side, Value};
 use haar_node::Node;
 use tree_key::Key;
 

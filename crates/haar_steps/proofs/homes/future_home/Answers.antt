@@ -1,11 +1,13 @@
-use Rattle.std.proofs.Common.{◌≡◌, ◌∙◌, sym, ap, Some, ℕ}
+use Rattle.std.proofs.Common.{◌≡◌, ◌∙◌, ap, Some, ℕ, arith}
 use Rattle.app_core.specs.Homes.{rank_within}
-use Rattle.owner_map.specs.Owners.{owner}
-use Rattle.tree_key.specs.Keys.{Key}
-use Rattle.tree_key.proofs.OrderLemmas.{places_differ}
-use Rattle.haar_app.proofs.haar_app.HaarApp.future_home.Goals as goal
+use Rattle.haar_steps.proofs.HomeLemmas.{kept_by_key, kept_by_none}
+use Rattle.haar_steps.proofs.homes.future_home.Goals as goal
 
-pub returns-in-Some-clause-key : goal.returns-in-Some-clause-key
-returns-in-Some-clause-key c = λ k is part place.
-    let same : c.in-Some.parent ≡ k = places_differ c.in-Some.parent k c.in-Some.ensures.some.0 is (c.in-Some.ensures.some.1 ∙ sym place) in
-    c.rank_within.ensures ∙ ap (λ (r : ℕ). rank_within c.args.ranks (Some r)) (c.owner.ensures.owner ∙ ap (λ (p : Key). owner c.args.self.now.map p c.args.ranks) same)
+pub returns-in-Some : goal.returns-in-Some
+returns-in-Some c =
+    let some = c.in-Some.ensures.some in
+    c.rank_within.ensures ∙ ap (λ (r : ℕ). rank_within c.args.ranks (Some r)) c.owner.ensures.owner
+    ∙ kept_by_key c.args.map c.args.future.now c.args.ranks c.in-Some.parent (omega (arith, c.if-future-gt0.false)) some.0 some.1
+
+pub returns-in-None : goal.returns-in-None
+returns-in-None c = kept_by_none c.args.map c.args.future.now c.args.ranks (omega (arith, c.if-future-gt0.false)) c.in-None.ensures.none
