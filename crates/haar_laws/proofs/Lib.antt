@@ -1,0 +1,4 @@
+pub mod UnitLemmas
+pub mod TotalLemmas
+pub mod RightLemmas
+pub mod StartLemmas
