@@ -10,7 +10,7 @@
 //! own.
 #![tactic(auto)]
 
-mod calls;
+mod app;
 mod haar_app;
 mod planning;
 mod results;

@@ -1,21 +1,26 @@
 //! How an application is made of a job.
-ghost use Rattle.std.specs.Prelude.{◌≡◌, ℕ, ◌≤◌, true, length, IfOk};
+ghost use Rattle.std.specs.Prelude.{◌≡◌, ℕ, ◌≤◌, true, length, map, IfOk};
+ghost use Rattle.std.specs.Option.{option_map};
 ghost use Rattle.job_data.specs.Checks.{is_within_limits};
-ghost use Rattle.job_data.specs.Data.{data_of};
+ghost use Rattle.job_data.specs.Data.{data_of, form_of};
 ghost use Rattle.haar_base.specs.Operations.{is_within, are_within};
 ghost use Rattle.app_core.specs.Commands.{IsRankCount};
+ghost use Rattle.haar_app.specs.Planning.{first_of, second_of, code_at, written_at, tree_form, operation_for, reads_in};
+ghost use Rattle.haar_app.specs.KeptPlans.{ArePlans};
 
 use crate::haar_app::HaarApp;
+use app_core::OutOfMemory;
 use haar_base::Operation;
 use haar_steps::Commands;
-use app_core::OutOfMemory;
 use job_data::{Command, Job, Sources, Step, TreeForm};
 use job_lang::plan;
 use owner_map::OwnerMap;
 use std::alloc::Global;
 
 // The version that a command reads first, or 0.
-fn first_version(reads: Sources) -> u32 {
+fn first_version(reads: Sources) -> u32
+    ensures { result ≡ first_of reads }
+{
     match reads {
         Sources::Nothing => 0,
         Sources::One(version) => version,
@@ -24,7 +29,9 @@ fn first_version(reads: Sources) -> u32 {
 }
 
 // The version that a command reads second, or 0.
-fn second_version(reads: Sources) -> u32 {
+fn second_version(reads: Sources) -> u32
+    ensures { result ≡ second_of reads }
+{
     match reads {
         Sources::Nothing => 0,
         Sources::One(_) => 0,
@@ -32,21 +39,37 @@ fn second_version(reads: Sources) -> u32 {
     }
 }
 
-// The form in which a version was written.
-fn form_of(commands: &[Command], version: u32) -> TreeForm {
-    let written = match version.checked_sub(1) {
-        Some(before) => commands.get(before as usize),
+/// The command of a number, from 1.
+pub fn command_at(commands: &[Command], number: u32) -> Option<Command>
+    ensures { result ≡ code_at commands.now number }
+{
+    match number.checked_sub(1) {
+        Some(before) => commands.get(before as usize).copied(),
         None => None,
-    };
-    match written {
-        Some(command) => command.written_form().unwrap_or(TreeForm::Reconstructed),
-        None => TreeForm::Reconstructed,
     }
+}
+
+// The form in which the command of a number writes its tree. None where it writes none.
+fn written_at(commands: &[Command], version: u32) -> Option<TreeForm>
+    ensures { option_map form_of result ≡ written_at (map data_of commands.now) version }
+{
+    match command_at(commands, version) {
+        Some(command) => command.written_form(),
+        None => None,
+    }
+}
+
+// The form in which a version was written.
+fn form_of(commands: &[Command], version: u32) -> TreeForm
+    ensures { result ≡ tree_form (written_at (map data_of commands.now) version) }
+{
+    written_at(commands, version).unwrap_or(TreeForm::Reconstructed)
 }
 
 // What a command does, by its step of the plan.
 fn operation_of(commands: &[Command], command: &Command, reads: Sources) -> Operation
-    ensures { (depth : ℕ) → is_within_limits depth (data_of command.now) ≡ true → is_within depth result ≡ true }
+    ensures value { result ≡ operation_for command.now reads (tree_form (written_at (map data_of commands.now) (first_of reads))) }
+    ensures within { (depth : ℕ) → is_within_limits depth (data_of command.now) ≡ true → is_within depth result ≡ true }
 {
     let first = first_version(reads);
     let second = second_version(reads);
@@ -99,7 +122,9 @@ fn operation_of(commands: &[Command], command: &Command, reads: Sources) -> Oper
 }
 
 // The versions that the command at a place reads.
-fn reads_at(steps: &[Step], at: usize) -> Sources {
+fn reads_at(steps: &[Step], at: usize) -> Sources
+    ensures { result ≡ reads_in steps.now at }
+{
     match steps.get(at) {
         Some(step) => step.reads,
         None => Sources::Nothing,
@@ -110,6 +135,8 @@ fn reads_at(steps: &[Step], at: usize) -> Sources {
 fn operations_of(alloc: Global, job: &Job) -> Result<Vec<Operation>, OutOfMemory>
     ensures within { IfOk result (λ v. are_within job.now.depth v.items ≡ true) }
     ensures few { IfOk result (λ v. length v.items ≤ 512) }
+    ensures number { IfOk result (λ v. length v.items ≡ length job.now.commands) }
+    ensures plans { IfOk result (λ v. ArePlans job.now.commands v.items) }
 {
     // Called for its clause `job` alone: each command is accepted after those before it.
     let _depth = job.depth();

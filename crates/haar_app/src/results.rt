@@ -1,6 +1,14 @@
 //! The lines of commands, from the values of their results.
+ghost use Rattle.std.specs.Prelude.{◌≡◌, IfOk, Err};
+ghost use Rattle.std.specs.Option.{option_map};
+ghost use Rattle.job_data.specs.Data.{data_of};
+ghost use Rattle.haar_units.specs.ModelJobs.{command_at};
+ghost use Rattle.haar_base.specs.declared.value.Value.TheVariants.{Bad as BadValue};
+ghost use Rattle.haar_app.specs.declared.results.ResultError.TheVariants.{Overflow as OverflowError};
+ghost use Rattle.haar_app.specs.Results.{product_line, count_line, result_lines};
 
 use crate::haar_app::HaarApp;
+use crate::planning::command_at;
 use app_core::OutOfMemory;
 use haar_base::Value;
 use haar_lines::texts::{inner_line, size_line};
@@ -23,24 +31,43 @@ impl From<OutOfMemory> for ResultError {
     }
 }
 
-impl HaarApp {
-    // The line that a command makes of a number that it gives. Empty where the command isn't one that gives it.
-    fn number_text(&self, alloc: Global, command: u32, value: &Value) -> Result<Text, OutOfMemory> {
-        let command = match command.checked_sub(1) {
-            Some(before) => self.job.commands().get(before as usize),
-            None => None,
-        };
-        match (command, value) {
-            (Some(Command::Inner { left, right }), Value::Product(product)) => {
-                inner_line(alloc, left.bytes(), right.bytes(), *product)
-            }
-            (Some(Command::Size { name }), Value::Count(count)) => {
-                size_line(alloc, name.bytes(), *count)
-            }
-            _ => Ok(Text::new(alloc)),
+// The line of an inner product. Empty where the command gives none.
+fn product_text(alloc: Global, command: Option<Command>, product: i128) -> Result<Text, OutOfMemory>
+    ensures { IfOk result (λ text. text ≡ product_line (option_map data_of command) product) }
+{
+    match command {
+        Some(Command::Inner { left, right }) => {
+            inner_line(alloc, left.bytes(), right.bytes(), product)
         }
+        _ => Ok(Text::new(alloc)),
     }
+}
 
+// The line of a size. Empty where the command gives none.
+fn count_text(alloc: Global, command: Option<Command>, count: u64) -> Result<Text, OutOfMemory>
+    ensures { IfOk result (λ text. text ≡ count_line (option_map data_of command) count) }
+{
+    match command {
+        Some(Command::Size { name }) => size_line(alloc, name.bytes(), count),
+        _ => Ok(Text::new(alloc)),
+    }
+}
+
+// The lines that a command prints where its result has this value.
+fn lines_text(alloc: Global, command: Option<Command>, value: &Value) -> Result<Text, OutOfMemory>
+    ensures { IfOk result (λ text. text ≡ result_lines (option_map data_of command) value.now) }
+{
+    match value {
+        Value::Product(product) => product_text(alloc, command, *product),
+        Value::Count(count) => count_text(alloc, command, *count),
+        Value::Lines(lines) => lines.text(alloc),
+        Value::Done => Ok(Text::new(alloc)),
+        Value::Sum(_) => Ok(Text::new(alloc)),
+        Value::Bad => Ok(Text::new(alloc)),
+    }
+}
+
+impl HaarApp {
     /// The lines of a command, from the value of its result.
     ///
     /// # Errors
@@ -51,11 +78,20 @@ impl HaarApp {
         alloc: Global,
         command: u32,
         value: &Value,
-    ) -> Result<Text, ResultError> {
+    ) -> Result<Text, ResultError>
+        ensures ok { IfOk result (λ text. text ≡ result_lines (command_at self.now.job.commands command) value.now) }
+        ensures overflow { result ≡ Err OverflowError → value.now ≡ BadValue }
+        ensures bad { value.now ≡ BadValue → result ≡ Err OverflowError }
+    {
         match value {
             Value::Bad => Err(ResultError::Overflow),
-            Value::Lines(lines) => Ok(lines.text(alloc)?),
-            _ => Ok(self.number_text(alloc, command, value)?),
+            _ => {
+                let command = command_at(self.job.commands(), command);
+                match lines_text(alloc, command, value) {
+                    Ok(text) => Ok(text),
+                    Err(_) => Err(ResultError::OutOfMemory),
+                }
+            }
         }
     }
 }
