@@ -1,7 +1,7 @@
 //! A run of all units of a job on one thread.
 
 use crate::orders::Order;
-use app_core::{CellName, CommandKind, Inputs, Label, LentEffect, OutOfMemory};
+use app_core::{App, CellName, CommandKind, Inputs, Label, LentEffect, OutOfMemory};
 use haar_app::{HaarApp, ResultError, Unit, Value};
 use haar_node::Node;
 use std::alloc::Global;

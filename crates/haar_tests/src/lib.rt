@@ -7,3 +7,5 @@ mod driver;
 mod orders;
 #[cfg(test)]
 mod tests;
+#[cfg(test)]
+mod wrong_inputs;
