@@ -8,7 +8,7 @@ use Rattle.tree_model.specs.Nodes.Form.{Reconstructed, Compressed}
 use Rattle.tree_model.specs.OperationTexts.{interior_line, printed_lines}
 use Rattle.tree_model.specs.Shapes.{is_leaf, is_interior}
 use Rattle.tree_model.specs.Texts.{leaf_line}
-use Rattle.tree_model.specs.Trees.{Tree, box_sum}
+use Rattle.tree_model.specs.Trees.{Tree, IsTree, box_sum}
 
 -- the keys so many levels below a key, from left to right
 abbrev pub keys_below : Key → ℕ → List Key
@@ -58,4 +58,4 @@ AreRightRows form name t k rows = ArePrinted (k.level == 0) form name t k rows
 
 -- the lines of a tree, one row after another, are what `print` writes
 abbrev pub TreeLinesArePrinted : Type 0
-TreeLinesArePrinted = (form : Form) (name : List ℕ) (t : Tree) (rows : List (List ℕ)) → AreTreeLines form name t rows → flat_map (λ row. row) rows ≡ printed_lines form name t
+TreeLinesArePrinted = (form : Form) (name : List ℕ) (t : Tree) (rows : List (List ℕ)) → IsTree t → AreTreeLines form name t rows → flat_map (λ row. row) rows ≡ printed_lines form name t

@@ -1,93 +1,55 @@
 -- Units of `add` decide rightly.
-use Rattle.std.proofs.Common.{◌≡◌, ◌⊎◌, inl, inr, ⊎_elim, ℕ, zero, suc, ◌+◌, ◌*◌, ◌<◌, ◌≤◌, ◌^◌, Bool, true, false, List, [], ◌∷◌, ◌++◌, refl, sym, ap, ◌∙◌, subst, arith, ℤ, pos, ◌+ℤ◌, ◌-ℤ◌, ◌*ℤ◌}
-use Rattle.std.specs.Prelude.{◌&&◌, ◌||◌, ◌==◌, nat_le, nat_lt, not, if◌then◌else◌, Option, Some, None, IfSome, ⊤, slice_get}
-use Rattle.std.specs.Int.RustNames.{unsigned_abs, int_div, int_rem}
-use Rattle.std.specs.List.{list_any, list_all}
-use Rattle.std.specs.Option.{option_map, unwrap_or}
-use Rattle.std.proofs.lemmas.Bool.{and_parts, and_from, leb-false, lt-leb, lt-ltb, le-leb, leb-true, ltb-true, ltb-false, false_from_ne_true, cases_Bool, and_right, or_cases}
-use Rattle.std.proofs.lemmas.Int.{ints}
-use Rattle.std.proofs.lemmas.List.Folds.{list_any-append, list_any_none, list_any_at}
-use Rattle.tree_key.specs.Keys.{Key, child, place_of, width, first_cell}
+use Rattle.std.proofs.Common.{◌≡◌, ⊎_elim, ℕ, ◌*◌, ◌<◌, ◌^◌, Bool, true, false, refl, sym, ap, ◌∙◌, subst, arith, ℤ, pos}
+use Rattle.std.specs.Prelude.{◌&&◌, ◌||◌, ◌==◌, nat_le, nat_lt, not, if◌then◌else◌, Option, Some, None, IfSome}
+use Rattle.std.specs.Int.RustNames.{unsigned_abs}
+use Rattle.std.specs.Option.{unwrap_or}
+use Rattle.std.proofs.lemmas.Bool.{and_parts, leb-false, lt-ltb, ltb-true, false_from_ne_true}
+use Rattle.tree_key.specs.Keys.{Key, child, width}
 use Rattle.tree_key.proofs.FamilyLemmas.{child_fits}
-use Rattle.tree_model.specs.Functions.{fits, max_value, max_depth, is_value}
-use Rattle.tree_model.specs.Nodes.{Form, max_number, node as tree_node}
-use Rattle.tree_model.specs.Nodes.Form.{Reconstructed, Compressed}
-use Rattle.tree_model.specs.Nodes.Node.{Leaf as LeafData, Branch as BranchData, Inner as InnerData, Root as RootData, Bare as BareData}
-use Rattle.tree_model.specs.Operations.{refined, coarsened, union, weighted_sum, product, overflows}
-use Rattle.tree_model.specs.Project.{Projection, is_split, projected, projected_shape}
-use Rattle.tree_model.specs.Products.{is_common, inner_product, inner_part}
-use Rattle.tree_model.specs.Shapes.{is_key_of, is_leaf, is_interior}
-use Rattle.tree_model.specs.StoredTrees.{IsWhole, IsWholeSum, difference_at}
-use Rattle.tree_model.specs.Totals.{Visits, over, over_coarsened, intersection}
-use Rattle.tree_model.specs.Trees.{Tree, IsTree, HasValues, box_sum, box_values, difference, is_constant}
-use Rattle.tree_model.specs.Versions.{Version, tree_in, two_trees}
-use Rattle.tree_model.proofs.BoundLemmas.{box_sum_within, difference_within}
-use Rattle.tree_model.proofs.BoxSumLemmas.{box_sum_children, values_on_halves, key_of_tree}
-use Rattle.tree_model.proofs.LeafLemmas.{box_sum_leaf}
-use Rattle.tree_model.proofs.RowLemmas.{shape_child}
-use Rattle.tree_model.proofs.StoredTreeLemmas.{values_dont_overflow, projections_with_values, refined_have_values, whole_boxes_of_one_value}
-use Rattle.haar_node.specs.declared.Func.{Func}
+use Rattle.tree_model.specs.Functions.{max_value}
+use Rattle.tree_model.specs.Nodes.{max_number}
+use Rattle.tree_model.specs.Nodes.Form.{Compressed}
+use Rattle.tree_model.specs.Operations.{union, weighted_sum}
+use Rattle.tree_model.specs.Shapes.{is_key_of, is_interior}
+use Rattle.tree_model.specs.StoredTrees.{difference_at}
+use Rattle.tree_model.specs.Totals.{over}
+use Rattle.tree_model.specs.Trees.{Tree, IsTree, box_sum, difference}
+use Rattle.tree_model.specs.Versions.{Version, tree_in}
 use Rattle.haar_node.specs.declared.Node.{Node}
-use Rattle.haar_node.specs.declared.Node.TheVariants as node
-use Rattle.haar_node.specs.Func.{function_of}
 use Rattle.haar_node.specs.Node.{node_of}
-use Rattle.job_data.specs.Checks.{IsJob}
-use Rattle.haar_units.specs.Jobs.{is_on_trees}
-use Rattle.haar_units.specs.ModelJobs.{keys_at}
-use Rattle.haar_units.proofs.EffectLemmas.{some_is, none_is}
 use Rattle.haar_base.specs.declared.operation.Operation.{Operation}
-use Rattle.haar_base.specs.declared.operation.Operation.TheVariants.{Project, Refine, Coarsen, Compress, Reconstruct, Add, Mul, Inner, Print, Size, Fence}
-use Rattle.haar_base.specs.declared.unit.Side.{Side}
-use Rattle.haar_base.specs.declared.unit.Side.TheVariants.{Nothing, Entry, Below}
-use Rattle.haar_base.specs.declared.unit.Sides.{Sides}
-use Rattle.haar_base.specs.declared.unit.Held.{Held}
-use Rattle.haar_base.specs.declared.unit.Down.{Down as DownUnit}
-use Rattle.haar_base.specs.declared.unit.Up.{Up as UpUnit}
-use Rattle.haar_base.specs.declared.value.Value.{Value}
-use Rattle.haar_base.specs.declared.value.Value.TheVariants.{Done, Sum, Product, Lines, Count, Bad}
+use Rattle.haar_base.specs.declared.operation.Operation.TheVariants.{Add}
+use Rattle.haar_base.specs.declared.value.Value.TheVariants.{Done}
 use Rattle.haar_base.specs.declared.decisions.Visit.{Visit}
 use Rattle.haar_base.specs.declared.decisions.Visit.TheVariants as visits
-use Rattle.haar_base.specs.declared.decisions.Combination.{Combination}
-use Rattle.haar_base.specs.declared.decisions.Combination.TheVariants as combinations
-use Rattle.haar_base.specs.declared.readings.Leaf.{Leaf}
-use Rattle.haar_base.specs.declared.readings.Leaf.TheVariants.{Whole, Cut, Wrong}
 use Rattle.haar_base.specs.declared.readings.Sums.{Sums}
-use Rattle.haar_base.specs.declared.readings.ChildSides.{ChildSides}
-use Rattle.haar_base.specs.Decisions.{bad_visit, bad_combination, is_done, done}
+use Rattle.haar_base.specs.Decisions.{bad_visit}
 use Rattle.haar_base.specs.Numbers.{coefficient}
-use Rattle.haar_base.specs.Operations.{operation_at, word_of, first_source, second_source, is_within, are_within}
-use Rattle.haar_base.specs.Readings.{leaf_at, sums, sums_at, leaf_sides, sides_by, sum_sides, entry, one, nothing_held}
-use Rattle.haar_visits.specs.Visits.{visit, combine}
-use Rattle.haar_visits.specs.Projecting.{visit_by, projected_sum, no_sides}
-use Rattle.haar_visits.specs.Refining.{split_one, refine_cut, refine_leaf, visit_refined}
-use Rattle.haar_visits.specs.Coarsening.{split_entries}
-use Rattle.haar_visits.specs.Compressing.{compressed_node, below_node, compress_leaf, visit_compressed, joined, combine_right, combine_compressed}
-use Rattle.haar_visits.specs.Reconstructing.{reconstruct_by, reconstruct_sums, visit_reconstructed}
-use Rattle.haar_visits.specs.Forms.{IsCombinationOf}
-use Rattle.haar_visits.proofs.FormLemmas.{visited, combined}
-use Rattle.haar_meaning.specs.PlannedJobs.{PlannedJob, IsPlannedJob, Standing, standing, version_of}
-use Rattle.haar_meaning.specs.PlannedJobs.Standing.{Before, At, After}
-use Rattle.haar_meaning.specs.RightValues.{IsMeant, IsOverflow, overflows_on, overflow_value, written_value}
+use Rattle.haar_base.specs.Operations.{operation_at}
+use Rattle.haar_base.specs.Readings.{sums, sums_at, sum_sides}
+use Rattle.haar_visits.specs.Compressing.{compressed_node}
+use Rattle.haar_visits.proofs.FormLemmas.{visited}
+use Rattle.haar_meaning.specs.PlannedJobs.{PlannedJob, IsPlannedJob, standing, version_of}
+use Rattle.haar_meaning.specs.PlannedJobs.Standing.{Before, After}
+use Rattle.haar_meaning.specs.RightValues.{overflows_on}
 use Rattle.haar_meaning.specs.RightCells.{stored_node}
-use Rattle.haar_meaning.specs.Sides.{form_read, known_sum, knows_sums, side_of, IsRightSide}
-use Rattle.haar_meaning.specs.JobUnits.{IsVisited, IsDownUnit, IsUpUnit}
-use Rattle.haar_meaning.specs.RightDecisions.{IsRightPut, IsRightGive, IsRightVisit, IsRightCombination}
-use Rattle.haar_right.specs.Laws.{IsRightRead, IsVisitedRightly, IsCombinedRightly}
-use Rattle.haar_right.proofs.KnownLemmas.{IsKnown, before_if, source_is_before, version_is_over, version_is_known, version_is_tree}
-use Rattle.haar_right.proofs.PlanLemmas.{version_with, OneRead, TwoRead, Projects, projection_of, project_plan, refine_plan, Refines, Coarsens, coarsen_plan, compress_plan, Compresses, reconstruct_plan, Reconstructs, Adds, Multiplies, Inners, add_plan, mul_plan, inner_plan}
-use Rattle.haar_right.proofs.ReadingLemmas.{HasCell, leaf_in, leaf_read, sums_read, root_sum, root_sums_read, child_key, none_below, leaf_from, interior_from, child_sides, sides_unknown, sides_below, leaf_children, sums_children}
-use Rattle.haar_right.proofs.DecisionLemmas.{side_is, side_from, read_is_some, cell_is, tree_is_known, known_or_after, fits_of, child_is_key_of, put_right, give_right, given_before, given_over, visited_by, is_visited, AreSides, IsDecision, whole_visit, after_decision, after_put, after_give, FirstOf, SecondOf, NothingSecond, one_side, two_sides}
-use Rattle.haar_right.proofs.WrittenLemmas.{some_of, stored_branch, stored_leaf, stored_sums, stored_compressed, put_written, not_over, overflow_halves, done_right}
-use Rattle.haar_right.proofs.SourceLemmas.{leaf_found, sums_found, root_sums_found, known_source}
+use Rattle.haar_meaning.specs.Sides.{knows_sums}
+use Rattle.haar_meaning.specs.JobUnits.{IsVisited}
+use Rattle.haar_right.specs.Laws.{IsVisitedRightly, IsCombinedRightly}
+use Rattle.haar_right.proofs.KnownLemmas.{IsKnown, before_if, version_is_tree}
+use Rattle.haar_right.proofs.PlanLemmas.{version_with, Adds, add_plan}
+use Rattle.haar_right.proofs.ReadingLemmas.{child_key, interior_from, child_sides, sums_children}
+use Rattle.haar_right.proofs.DecisionLemmas.{read_is_some, known_or_after, fits_of, visited_by, is_visited, IsDecision, whole_visit, after_decision, FirstOf, SecondOf, two_sides}
+use Rattle.haar_right.proofs.WrittenLemmas.{some_of, stored_sums, stored_compressed, put_written, done_right}
+use Rattle.haar_right.proofs.SourceLemmas.{sums_found, known_source}
 use Rattle.std.specs.Prelude.{is_none, length}
 use Rattle.tree_model.proofs.CombinedSumLemmas.{sums_linear}
 use Rattle.tree_model.proofs.StoredTreeLemmas.{whole_boxes_are_even}
 use Rattle.haar_visits.specs.declared.adding.Factors.{Factors}
 use Rattle.haar_visits.specs.Adding.{weighted, add_leaf, kept_sum, add_difference, split_two, add_cut_by, add_cut, add_both, add_sums, visit_added}
-use Rattle.haar_visits.specs.Multiplying.{is_leaf_sum, product_value, leaf_product, product_sum, multiply_leaf, multiply_cut, multiply_leaves, visit_multiplied}
 use Rattle.haar_visits.specs.Visits.{factors}
-use Rattle.haar_right.proofs.OverflowLemmas.{whole_overflow, box_low, difference_low, sum_low, no_overflow_on, ProductOn, product_on}
-use Rattle.haar_right.proofs.TwoTreeLemmas.{split_first, split_second, value_over, over_not_before, overflow_given, bad_right}
+use Rattle.haar_right.proofs.OverflowLemmas.{whole_overflow, difference_low, sum_low}
+use Rattle.haar_right.proofs.TwoTreeLemmas.{split_first, split_second, value_over, overflow_given, bad_right}
 
 -- the difference of a key, by whether it has children
 
@@ -195,7 +157,7 @@ module _ (job : PlannedJob) (planned : IsPlannedJob job) (command : ℕ) (a : �
             → IsDecision job command operation k place (if low then visits.Give (Some (compressed_node k (sums (box_sum h k) None))) Done else bad_visit true)
         go true low = (
           put_written job command operation k place w (compressed_node k (sums (box_sum h k) None)) plan.written (λ before. stored_compressed h k false (inside before) whole),
-          overflow_given job planned command operation k place at w plan.written (λ v meant. meant) Done (value_over h k false (over ∙ ap not low))
+          overflow_given job planned command operation k place at w plan.written (λ v meant. meant) Done (value_over h k false (over ∙ ap not low)),
         )
         go false low = bad (over ∙ ap not low)
 
@@ -206,7 +168,7 @@ module _ (job : PlannedJob) (planned : IsPlannedJob job) (command : ℕ) (a : �
       put_written job command operation k place w n plan.written stored,
       visited_by job command operation (child k false) (child_fits k.level k.at false place) (over (union f.shape g.shape)) plan.visited (λ before. cut),
       visited_by job command operation (child k true) (child_fits k.level k.at true place) (over (union f.shape g.shape)) plan.visited (λ before. tree_h.shape.children k ∙ cut),
-      before_if (standing job command) (λ before. refl)
+      before_if (standing job command) (λ before. refl),
     )
 
     by_sum : k.level < f.depth → h.shape (child k false) ≡ true → (root : Bool) → (k.level == 0) ≡ root
@@ -242,12 +204,12 @@ module _ (job : PlannedJob) (planned : IsPlannedJob job) (command : ℕ) (a : �
     cut_decision cut_f cut_g is_f is_g above cut =
         let above_g : k.level < g.depth = subst (λ (d : ℕ). k.level < d) same above in
         let diffs : weighted (factors a b) (unwrap_or (difference_at f k) (pos 0)) (unwrap_or (difference_at g k) (pos 0)) ≡ difference h k =
-            (λ i. weighted (factors a b) (unwrapped f k cut_f known_f.tree key_f above is_f i) (unwrapped g k cut_g known_g.tree key_g above_g is_g i)) ∙ sym (sums_linear.differences a f b g k cells same) in
+        (λ i. weighted (factors a b) (unwrapped f k cut_f known_f.tree key_f above is_f i) (unwrapped g k cut_g known_g.tree key_g above_g is_g i)) ∙ sym (sums_linear.differences a f b g k cells same) in
         let sides_f = sums_children operation f k known_f.tree refl key_f above in
         let sides_g = sums_children operation g k known_g.tree refl key_g above_g in
         let all : add_cut (factors a b) k (sums (box_sum f k) (difference_at f k)) (sums (box_sum g k) (difference_at g k))
-            ≡ add_cut_by k (coefficient (difference h k)) (if k.level == 0 then coefficient (box_sum h k) else Some (pos 0)) (Some (child_sides operation f k)) (Some (child_sides operation g k)) =
-            (λ i. add_cut_by k (coefficient (diffs i)) (if k.level == 0 then coefficient (sym sum_is i) else Some (pos 0)) (sides_f i) (sides_g i)) in
+        ≡ add_cut_by k (coefficient (difference h k)) (if k.level == 0 then coefficient (box_sum h k) else Some (pos 0)) (Some (child_sides operation f k)) (Some (child_sides operation g k)) =
+        (λ i. add_cut_by k (coefficient (diffs i)) (if k.level == 0 then coefficient (sym sum_is i) else Some (pos 0)) (sides_f i) (sides_g i)) in
         subst (λ (v : Visit). IsDecision job command operation k place v) (sym all) (by_difference above cut)
 
     both_decision : (cut_f cut_g : Bool) → f.shape (child k false) ≡ cut_f → g.shape (child k false) ≡ cut_g → k.level < f.depth → h.shape (child k false) ≡ true
@@ -256,8 +218,8 @@ module _ (job : PlannedJob) (planned : IsPlannedJob job) (command : ℕ) (a : �
     both_decision cut_f cut_g is_f is_g above cut none =
         let high : k.level < job.depth = subst (λ (d : ℕ). k.level < d) known_f.depth_is above in
         subst (λ (e : Bool). IsDecision job command operation k place (if e
-            then add_leaf job.depth (factors a b) k (sums (box_sum f k) (difference_at f k)) (sums (box_sum g k) (difference_at g k))
-            else if nat_lt k.level job.depth then add_cut (factors a b) k (sums (box_sum f k) (difference_at f k)) (sums (box_sum g k) (difference_at g k)) else bad_visit true)) (sym none)
+        then add_leaf job.depth (factors a b) k (sums (box_sum f k) (difference_at f k)) (sums (box_sum g k) (difference_at g k))
+        else if nat_lt k.level job.depth then add_cut (factors a b) k (sums (box_sum f k) (difference_at f k)) (sums (box_sum g k) (difference_at g k)) else bad_visit true)) (sym none)
         (subst (λ (e : Bool). IsDecision job command operation k place (if e then add_cut (factors a b) k (sums (box_sum f k) (difference_at f k)) (sums (box_sum g k) (difference_at g k)) else bad_visit true)) (sym (lt-ltb k.level job.depth high))
         (cut_decision cut_f cut_g is_f is_g above cut))
 
@@ -287,7 +249,7 @@ add_visited a left b right job u first second planned is read other =
     whole_visit job u.command (Add a left b right) u.key place is.key is.command (visit_added job.depth (factors a b) u.key (record { first = u.first; second = u.second }) first second)
     (visited job.depth (Add a left b right) u.key (record { first = u.first; second = u.second }) first second refl)
     (two_sides job u.command (Add a left b right) u.key place (visit_added job.depth (factors a b) u.key (record { first = u.first; second = u.second }) first second)
-        (read_is_some job Compressed left p.first p.read_first) (read_is_some job Compressed right p.second p.read_second) first_known second_known)
+    (read_is_some job Compressed left p.first p.read_first) (read_is_some job Compressed right p.second p.read_second) first_known second_known)
     (⊎_elim (λ one. ⊎_elim (early place one) (late place) (known_or_after job u.command right p.earlier_right)) (late place) (known_or_after job u.command left p.earlier_left))
   where
     key_in : (t : Tree) → IsKnown job.depth t → is_key_of t.depth u.key ≡ true

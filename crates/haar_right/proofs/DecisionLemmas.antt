@@ -1,5 +1,5 @@
 -- When a decision is right: by what is put, what is given, and what the units of the children know.
-use Rattle.std.proofs.Common.{◌≡◌, ◌⊎◌, inl, inr, ℕ, zero, suc, ◌+◌, ◌<◌, ◌≤◌, ◌^◌, Bool, true, false, refl, sym, ap, ◌∙◌, subst, arith}
+use Rattle.std.proofs.Common.{◌≡◌, ◌⊎◌, inl, inr, ℕ, zero, suc, ◌<◌, ◌^◌, Bool, true, false, refl, sym, ap, ◌∙◌, subst, arith}
 use Rattle.std.specs.Prelude.{if◌then◌else◌, Option, Some, None, IfSome, ⊤}
 use Rattle.tree_key.specs.Keys.{Key, child, place_of}
 use Rattle.tree_key.proofs.FamilyLemmas.{child_fits}
@@ -12,16 +12,13 @@ use Rattle.tree_model.specs.Versions.{Version, tree_in}
 use Rattle.tree_model.proofs.BelowLeafLemmas.{key_parts, key_from_parts}
 use Rattle.haar_node.specs.declared.Node.{Node}
 use Rattle.haar_node.specs.Node.{node_of}
-use Rattle.haar_units.specs.Jobs.{is_on_trees}
 use Rattle.haar_units.specs.ModelJobs.{keys_at}
 use Rattle.haar_units.specs.Places.{key_at}
 use Rattle.haar_units.proofs.EffectLemmas.{none_is}
 use Rattle.haar_units.proofs.PlaceLemmas.{keys_have_places}
 use Rattle.haar_base.specs.declared.operation.Operation.{Operation}
 use Rattle.haar_base.specs.declared.unit.Side.{Side}
-use Rattle.haar_base.specs.declared.unit.Side.TheVariants.{Nothing, Entry, Below}
-use Rattle.haar_base.specs.declared.unit.Sides.{Sides}
-use Rattle.haar_base.specs.declared.unit.Held.{Held}
+use Rattle.haar_base.specs.declared.unit.Side.TheVariants.{Nothing}
 use Rattle.haar_base.specs.declared.value.Value.{Value}
 use Rattle.haar_base.specs.declared.decisions.Visit.{Visit}
 use Rattle.haar_base.specs.declared.decisions.Visit.TheVariants as visits
@@ -30,9 +27,9 @@ use Rattle.haar_visits.specs.Forms.{IsVisitOf}
 use Rattle.haar_meaning.specs.PlannedJobs.{PlannedJob, IsPlannedJob, Standing, standing, IfBefore, version_of}
 use Rattle.haar_meaning.specs.PlannedJobs.Standing.{Before, At, After}
 use Rattle.haar_meaning.specs.RightValues.{IsMeant, IsOverflow, IsValueAt, IsKeyValue}
-use Rattle.haar_meaning.specs.RightCells.{stored_node, IsStored, IsRightCell}
-use Rattle.haar_meaning.specs.Sides.{form_read, known_sum, side_of, IsRightSide, IsHeld}
-use Rattle.haar_meaning.specs.JobUnits.{IsVisited, IsErased, IsOnTrees}
+use Rattle.haar_meaning.specs.RightCells.{stored_node, IsStored}
+use Rattle.haar_meaning.specs.Sides.{form_read, side_of, IsRightSide, IsHeld}
+use Rattle.haar_meaning.specs.JobUnits.{IsVisited, IsOnTrees}
 use Rattle.haar_meaning.specs.RightDecisions.{IsRightPut, IsRightGive, IsRightVisit}
 use Rattle.haar_right.specs.Laws.{IsRightEntry, IsRightRead}
 use Rattle.haar_right.proofs.KnownLemmas.{IsKnown, if_before, before_if, if_some, some_if, source_is_before, version_is_known}
@@ -145,7 +142,7 @@ module _ (job : PlannedJob) (command : ℕ) (operation : Operation) (k : Key) (f
     decision.0,
     (operation, record { command = on; key = child_is_key_of job.depth k false key form.1; visited = decision.1; first = sides.0; second = sides.2 }),
     (operation, record { command = on; key = child_is_key_of job.depth k true key form.1; visited = decision.2; first = sides.1; second = sides.3 }),
-    (operation, record { command = on; key = key; above = form.1; visited = decision.1; held = decision.3 })
+    (operation, record { command = on; key = key; above = form.1; visited = decision.1; held = decision.3 }),
   )
 
   -- after the overflow
@@ -162,7 +159,7 @@ module _ (job : PlannedJob) (command : ℕ) (operation : Operation) (k : Key) (f
     after_put late n,
     before_if (standing job command) (λ before. absurd (cc)),
     before_if (standing job command) (λ before. absurd (cc)),
-    before_if (standing job command) (λ before. absurd (cc))
+    before_if (standing job command) (λ before. absurd (cc)),
   )
 
 -- the children's sides of one tree
@@ -196,7 +193,7 @@ one_side job command operation k fits (visits.Split n left right held) some lone
   side_from job operation (first_source operation) (child k false) left.first some (λ t before read. (known t before read).0),
   side_from job operation (first_source operation) (child k true) right.first some (λ t before read. (known t before read).1),
   subst (λ (source : ℕ). IsRightSide job operation source (child k false) left.second) (sym lone) nothing.0,
-  subst (λ (source : ℕ). IsRightSide job operation source (child k true) right.second) (sym lone) nothing.1
+  subst (λ (source : ℕ). IsRightSide job operation source (child k true) right.second) (sym lone) nothing.1,
 )
 
 pub two_sides : (job : PlannedJob) (command : ℕ) (operation : Operation) (k : Key) (fits : k.at < 2 ^ k.level) (v : Visit) → (first_source operation ≡ 0 → ⊥) → (second_source operation ≡ 0 → ⊥) → FirstKnown job operation k v → SecondKnown job operation k v → AreSides job command operation k fits v
@@ -205,5 +202,5 @@ two_sides job command operation k fits (visits.Split n left right held) some oth
   side_from job operation (first_source operation) (child k false) left.first some (λ t before read. (known t before read).0),
   side_from job operation (first_source operation) (child k true) right.first some (λ t before read. (known t before read).1),
   side_from job operation (second_source operation) (child k false) left.second other (λ t before read. (too t before read).0),
-  side_from job operation (second_source operation) (child k true) right.second other (λ t before read. (too t before read).1)
+  side_from job operation (second_source operation) (child k true) right.second other (λ t before read. (too t before read).1),
 )

@@ -1,104 +1,55 @@
 -- Units of `inner` decide rightly.
-use Rattle.std.proofs.Common.{◌≡◌, ◌⊎◌, inl, inr, ⊎_elim, ℕ, zero, suc, ◌+◌, ◌*◌, ◌<◌, ◌≤◌, ◌^◌, Bool, true, false, List, [], ◌∷◌, ◌++◌, refl, sym, ap, ◌∙◌, subst, arith, ℤ, pos, ◌+ℤ◌, ◌-ℤ◌, ◌*ℤ◌}
-use Rattle.std.specs.Prelude.{◌&&◌, ◌||◌, ◌==◌, nat_le, nat_lt, not, if◌then◌else◌, Option, Some, None, IfSome, ⊤, slice_get}
-use Rattle.std.specs.Int.RustNames.{unsigned_abs, int_div, int_rem}
-use Rattle.std.specs.List.{list_any, list_all}
-use Rattle.std.specs.Option.{option_map, unwrap_or}
-use Rattle.std.proofs.lemmas.Bool.{and_parts, eqb-true, ne_eqb, and_from, leb-false, lt-leb, lt-ltb, le-leb, leb-true, ltb-true, ltb-false, false_from_ne_true, cases_Bool, and_right, or_cases}
-use Rattle.std.proofs.lemmas.Int.{ints}
+use Rattle.std.proofs.Common.{◌≡◌, ℕ, ◌+◌, ◌<◌, ◌≤◌, ◌^◌, Bool, true, false, refl, sym, ap, ◌∙◌, subst, arith, ℤ, pos, ◌+ℤ◌, ◌*ℤ◌}
+use Rattle.std.specs.Prelude.{◌&&◌, ◌==◌, nat_le, nat_lt, if◌then◌else◌, Option, Some, None}
+use Rattle.std.specs.Int.RustNames.{unsigned_abs, int_div}
+use Rattle.std.proofs.lemmas.Bool.{and_parts, eqb-true, ne_eqb, and_from, lt-ltb, le-leb, and_right}
 use Rattle.std.proofs.lemmas.Nat.{pow_pos}
-use Rattle.std.proofs.lemmas.List.Folds.{list_any-append, list_any_none, list_any_at}
-use Rattle.tree_key.specs.Keys.{Key, child, place_of, width, first_cell}
+use Rattle.tree_key.specs.Keys.{Key, child}
 use Rattle.tree_key.proofs.FamilyLemmas.{child_fits}
-use Rattle.tree_model.specs.Functions.{fits, max_value, max_depth, is_value}
-use Rattle.tree_model.specs.Nodes.{Form, max_number, node as tree_node}
-use Rattle.tree_model.specs.Nodes.Form.{Reconstructed, Compressed}
-use Rattle.tree_model.specs.Nodes.Node.{Leaf as LeafData, Branch as BranchData, Inner as InnerData, Root as RootData, Bare as BareData}
-use Rattle.tree_model.specs.Operations.{refined, coarsened, union, weighted_sum, product, overflows}
-use Rattle.tree_model.specs.Project.{Projection, is_split, projected, projected_shape}
+use Rattle.tree_model.specs.Functions.{max_depth}
+use Rattle.tree_model.specs.Nodes.Form.{Compressed}
 use Rattle.tree_model.specs.Products.{is_common, inner_product, inner_part}
-use Rattle.tree_model.specs.Shapes.{is_key_of, is_leaf, is_interior}
-use Rattle.tree_model.specs.StoredTrees.{IsWhole, IsWholeSum, difference_at}
-use Rattle.tree_model.specs.Totals.{Visits, over, over_coarsened, intersection}
-use Rattle.tree_model.specs.Trees.{Tree, IsTree, HasValues, box_sum, box_values, difference, is_constant}
-use Rattle.tree_model.specs.Versions.{Version, tree_in, two_trees}
-use Rattle.tree_model.proofs.BoundLemmas.{box_sum_within, difference_within}
-use Rattle.tree_model.proofs.BoxSumLemmas.{box_sum_children, values_on_halves, key_of_tree}
-use Rattle.tree_model.proofs.LeafLemmas.{box_sum_leaf}
-use Rattle.tree_model.proofs.RowLemmas.{shape_child}
-use Rattle.tree_model.proofs.StoredTreeLemmas.{values_dont_overflow, projections_with_values, refined_have_values, whole_boxes_of_one_value}
-use Rattle.haar_node.specs.declared.Func.{Func}
+use Rattle.tree_model.specs.Shapes.{is_key_of, is_interior}
+use Rattle.tree_model.specs.StoredTrees.{difference_at}
+use Rattle.tree_model.specs.Totals.{over, intersection}
+use Rattle.tree_model.specs.Trees.{Tree, IsTree, HasValues, box_sum, difference}
+use Rattle.tree_model.specs.Versions.{tree_in, two_trees}
 use Rattle.haar_node.specs.declared.Node.{Node}
-use Rattle.haar_node.specs.declared.Node.TheVariants as node
-use Rattle.haar_node.specs.Func.{function_of}
-use Rattle.haar_node.specs.Node.{node_of}
-use Rattle.job_data.specs.Checks.{IsJob}
-use Rattle.haar_units.specs.Jobs.{is_on_trees}
-use Rattle.haar_units.specs.ModelJobs.{keys_at}
-use Rattle.haar_units.proofs.EffectLemmas.{some_is, none_is}
 use Rattle.haar_base.specs.declared.operation.Operation.{Operation}
-use Rattle.haar_base.specs.declared.operation.Operation.TheVariants.{Project, Refine, Coarsen, Compress, Reconstruct, Add, Mul, Inner, Print, Size, Fence}
+use Rattle.haar_base.specs.declared.operation.Operation.TheVariants.{Inner}
 use Rattle.haar_base.specs.declared.unit.Side.{Side}
-use Rattle.haar_base.specs.declared.unit.Side.TheVariants.{Nothing, Entry, Below}
-use Rattle.haar_base.specs.declared.unit.Sides.{Sides}
+use Rattle.haar_base.specs.declared.unit.Side.TheVariants.{Below}
 use Rattle.haar_base.specs.declared.unit.Held.{Held}
-use Rattle.haar_base.specs.declared.unit.Down.{Down as DownUnit}
-use Rattle.haar_base.specs.declared.unit.Up.{Up as UpUnit}
 use Rattle.haar_base.specs.declared.value.Value.{Value}
-use Rattle.haar_base.specs.declared.value.Value.TheVariants.{Done, Sum, Product, Lines, Count, Bad}
+use Rattle.haar_base.specs.declared.value.Value.TheVariants.{Product, Bad}
 use Rattle.haar_base.specs.declared.decisions.Visit.{Visit}
 use Rattle.haar_base.specs.declared.decisions.Visit.TheVariants as visits
-use Rattle.haar_base.specs.declared.decisions.Combination.{Combination}
-use Rattle.haar_base.specs.declared.decisions.Combination.TheVariants as combinations
-use Rattle.haar_base.specs.declared.readings.Leaf.{Leaf}
-use Rattle.haar_base.specs.declared.readings.Leaf.TheVariants.{Whole, Cut, Wrong}
 use Rattle.haar_base.specs.declared.readings.Sums.{Sums}
 use Rattle.haar_base.specs.declared.readings.ChildSides.{ChildSides}
-use Rattle.haar_base.specs.Decisions.{bad_visit, bad_combination, is_done, done}
-use Rattle.haar_base.specs.Numbers.{coefficient}
-use Rattle.haar_base.specs.Operations.{operation_at, word_of, first_source, second_source, is_within, are_within}
-use Rattle.haar_base.specs.Readings.{leaf_at, sums, sums_at, leaf_sides, sides_by, sum_sides, entry, one, nothing_held}
-use Rattle.haar_visits.specs.Visits.{visit, combine}
-use Rattle.haar_visits.specs.Projecting.{visit_by, projected_sum, no_sides}
-use Rattle.haar_visits.specs.Refining.{split_one, refine_cut, refine_leaf, visit_refined}
-use Rattle.haar_visits.specs.Coarsening.{split_entries}
-use Rattle.haar_visits.specs.Compressing.{compressed_node, below_node, compress_leaf, visit_compressed, joined, combine_right, combine_compressed}
-use Rattle.haar_visits.specs.Reconstructing.{reconstruct_by, reconstruct_sums, visit_reconstructed}
-use Rattle.haar_visits.specs.Forms.{IsCombinationOf}
-use Rattle.haar_visits.proofs.FormLemmas.{visited, combined}
+use Rattle.haar_base.specs.Decisions.{bad_visit}
+use Rattle.haar_base.specs.Operations.{operation_at}
+use Rattle.haar_base.specs.Readings.{sums, sums_at, entry}
+use Rattle.haar_visits.proofs.FormLemmas.{visited}
 use Rattle.haar_meaning.specs.PlannedJobs.{PlannedJob, IsPlannedJob, Standing, standing, version_of}
 use Rattle.haar_meaning.specs.PlannedJobs.Standing.{Before, At, After}
-use Rattle.haar_meaning.specs.RightValues.{IsMeant, IsOverflow, overflows_on, overflow_value, written_value}
-use Rattle.haar_meaning.specs.RightCells.{stored_node}
-use Rattle.haar_meaning.specs.Sides.{form_read, known_sum, knows_sums, side_of, IsRightSide}
-use Rattle.haar_meaning.specs.JobUnits.{IsVisited, IsDownUnit, IsUpUnit}
-use Rattle.haar_meaning.specs.RightDecisions.{IsRightPut, IsRightGive, IsRightVisit, IsRightCombination}
+use Rattle.haar_meaning.specs.Sides.{form_read, knows_sums, side_of, IsRightSide}
+use Rattle.haar_meaning.specs.RightDecisions.{IsRightGive}
 use Rattle.haar_right.specs.Laws.{IsRightRead, IsVisitedRightly, IsCombinedRightly}
-use Rattle.haar_right.proofs.KnownLemmas.{IsKnown, before_if, source_is_before, version_is_over, version_is_known, version_is_tree}
-use Rattle.haar_right.proofs.PlanLemmas.{version_with, OneRead, TwoRead, Projects, projection_of, project_plan, refine_plan, Refines, Coarsens, coarsen_plan, compress_plan, Compresses, reconstruct_plan, Reconstructs, Adds, Multiplies, Inners, add_plan, mul_plan, inner_plan}
-use Rattle.haar_right.proofs.ReadingLemmas.{HasCell, leaf_in, leaf_read, sums_read, root_sum, root_sums_read, child_key, none_below, leaf_from, interior_from, child_sides, side_with, no_difference, sides_unknown, sides_below, leaf_children, sums_children}
-use Rattle.haar_right.proofs.DecisionLemmas.{side_is, side_from, read_is_some, cell_is, tree_is_known, known_or_after, fits_of, child_is_key_of, put_right, give_right, given_before, given_over, visited_by, is_visited, AreSides, IsDecision, whole_visit, after_decision, after_put, after_give, FirstOf, SecondOf, NothingSecond, one_side, two_sides}
-use Rattle.haar_right.proofs.WrittenLemmas.{some_of, stored_branch, stored_leaf, stored_sums, stored_compressed, put_written, not_over, overflow_halves, done_right}
-use Rattle.haar_right.proofs.SourceLemmas.{leaf_found, sums_found, root_sums_found, known_source}
-use Rattle.std.specs.Prelude.{is_none, length}
-use Rattle.tree_model.proofs.CombinedSumLemmas.{sums_linear}
-use Rattle.tree_model.proofs.StoredTreeLemmas.{whole_boxes_are_even}
-use Rattle.haar_visits.specs.declared.adding.Factors.{Factors}
-use Rattle.haar_visits.specs.Adding.{weighted, add_leaf, kept_sum, add_difference, split_two, add_cut_by, add_cut, add_both, add_sums, visit_added}
-use Rattle.haar_visits.specs.Multiplying.{is_leaf_sum, product_value, leaf_product, product_sum, multiply_leaf, multiply_cut, multiply_leaves, visit_multiplied}
-use Rattle.haar_visits.specs.Visits.{factors}
-use Rattle.haar_right.proofs.OverflowLemmas.{whole_overflow, box_low, difference_low, sum_low, no_overflow_on, ProductOn, product_on}
-use Rattle.haar_right.proofs.TwoTreeLemmas.{split_first, split_second, value_over, over_not_before, overflow_given, bad_right}
+use Rattle.haar_right.proofs.KnownLemmas.{IsKnown, before_if, source_is_before}
+use Rattle.haar_right.proofs.PlanLemmas.{Inners, inner_plan}
+use Rattle.haar_right.proofs.ReadingLemmas.{root_sum, child_key, interior_from, side_with, no_difference, sides_unknown}
+use Rattle.haar_right.proofs.DecisionLemmas.{side_is, read_is_some, fits_of, child_is_key_of, give_right, given_before, visited_by, is_visited, IsDecision, whole_visit, after_decision, after_give, FirstOf, SecondOf, two_sides}
+use Rattle.haar_right.proofs.WrittenLemmas.{some_of}
+use Rattle.haar_right.proofs.SourceLemmas.{root_sums_found, known_source}
 use Rattle.tree_key.specs.Keys.{root}
 use Rattle.tree_key.proofs.BoxLemmas.{same_key}
 use Rattle.tree_model.proofs.InnerProductLemmas.{product_law, inner_parts_follow}
 use Rattle.tree_model.proofs.BoundLemmas.{inner_parts_fit}
 use Rattle.tree_model.proofs.IntegerLemmas.{quotient_of_a_multiple}
 use Rattle.haar_base.specs.Numbers.{divides}
-use Rattle.haar_base.specs.declared.unit.Haar.{Haar}
-use Rattle.haar_visits.specs.InnerProducts.{whole_product, given_product, haar, both_entries, inner_by, inner_sums, visit_inner, part_of, inner_parts, inner_right, inner_value, combine_inner}
+use Rattle.haar_visits.specs.InnerProducts.{whole_product, given_product, haar, both_entries, inner_by, inner_sums, visit_inner, inner_value}
 use Rattle.haar_meaning.specs.RightValues.{both_read}
-use Rattle.haar_meaning.specs.Sides.{haar_of, IsHeld}
+use Rattle.haar_meaning.specs.Sides.{haar_of}
 use Rattle.haar_right.proofs.KnownLemmas.{if_before, if_some, no_version_not_over}
 use Rattle.haar_meaning.specs.RightValues.{inner_value as meant_value}
 
@@ -230,12 +181,11 @@ module _ (job : PlannedJob) (planned : IsPlannedJob job) (command left right : �
         → IsDecision job command operation k place (inner_by job.depth k (root_sum f k) (Some (difference f k)) (root_sum g k) (Some (difference g k)))
     splits in_f in_g cut_f cut_g =
         let high : k.level < job.depth = subst (λ (d : ℕ). k.level < d) known_f.depth_is (child_key f k false known_f.tree cut_f) in
-        subst (λ (b : Bool). IsDecision job command operation k place (if b then visits.Split None both_entries both_entries (record { first = haar (root_sum f k) (difference f k); second = haar (root_sum g k) (difference g k) }) else bad_visit false)) (sym (lt-ltb k.level job.depth high))
-        (
+        subst (λ (b : Bool). IsDecision job command operation k place (if b then visits.Split None both_entries both_entries (record { first = haar (root_sum f k) (difference f k); second = haar (root_sum g k) (difference g k) }) else bad_visit false)) (sym (lt-ltb k.level job.depth high)) (
           tt,
           visited_by job command operation (child k false) (child_fits k.level k.at false place) (over (intersection f.shape g.shape)) plan.visited (λ before i. cut_f i && cut_g i),
           visited_by job command operation (child k true) (child_fits k.level k.at true place) (over (intersection f.shape g.shape)) plan.visited (λ before. (λ i. known_f.tree.shape.children k i && known_g.tree.shape.children k i) ∙ (λ i. cut_f i && cut_g i)),
-          before_if (standing job command) (λ before. some_of (λ (p : Tree × Tree). record { first = haar (root_sum f k) (difference f k); second = haar (root_sum g k) (difference g k) } ≡ held_of p.0 p.1) (both_read job left right) (f, g) trees refl)
+          before_if (standing job command) (λ before. some_of (λ (p : Tree × Tree). record { first = haar (root_sum f k) (difference f k); second = haar (root_sum g k) (difference g k) } ≡ held_of p.0 p.1) (both_read job left right) (f, g) trees refl),
         )
       where
         held_of : Tree → Tree → Held
@@ -257,7 +207,7 @@ inner_visited left right job u first second planned is read other =
     whole_visit job u.command (Inner left right) u.key place is.key is.command (visit_inner job.depth u.key (record { first = u.first; second = u.second }) first second)
     (visited job.depth (Inner left right) u.key (record { first = u.first; second = u.second }) first second refl)
     (two_sides job u.command (Inner left right) u.key place (visit_inner job.depth u.key (record { first = u.first; second = u.second }) first second)
-        (read_is_some job Compressed left p.first p.read_first) (read_is_some job Compressed right p.second p.read_second) first_known second_known)
+    (read_is_some job Compressed left p.first p.read_first) (read_is_some job Compressed right p.second p.read_second) first_known second_known)
     (go place (standing job u.command) refl)
   where
     first_known : (t : Tree) → standing job left ≡ Before → tree_in Compressed (version_of job left) ≡ Some t → FirstOf (Inner left right) t u.key (visit_inner job.depth u.key (record { first = u.first; second = u.second }) first second)
@@ -286,7 +236,7 @@ inner_visited left right job u first second planned is read other =
         let found_g = root_sums_found job (Inner left right) right u.key u.second second p.second before_g refl both.1 p.read_second p.read_second is.second other in
         subst (λ (v : Visit). IsDecision job u.command (Inner left right) u.key place v)
         (sym ((λ i. inner_sums job.depth u.key (found_f i) (found_g i))
-            ∙ (λ i. inner_by job.depth u.key (root_sum p.first u.key) (diff_is p.first u.key (p.first.shape (child u.key false)) both.0 refl i) (root_sum p.second u.key) (diff_is p.second u.key (p.second.shape (child u.key false)) both.1 refl i))))
+        ∙ (λ i. inner_by job.depth u.key (root_sum p.first u.key) (diff_is p.first u.key (p.first.shape (child u.key false)) both.0 refl i) (root_sum p.second u.key) (diff_is p.second u.key (p.second.shape (child u.key false)) both.1 refl i))))
         (decision job planned u.command left right is.command.at u.key place is.key known_f known_g (p.first.shape (child u.key false)) (p.second.shape (child u.key false)) both.0 both.1 refl refl)
     go place At late = never_over job planned u.command left right is.command.at late
     go place After late = after_decision job u.command (Inner left right) u.key place is.command.at late (visit_inner job.depth u.key (record { first = u.first; second = u.second }) first second)
@@ -315,10 +265,10 @@ inner_combined l r job u left right planned is first second = (tt, go (standing 
         let right_place = fits_of job.depth (child u.key true) (child_is_key_of job.depth u.key true is.key is.above) in
         let both = and_parts (p.first.shape (child u.key false)) (p.second.shape (child u.key false)) (is_visited job u.command (Inner l r) (child u.key false) left_place (over (intersection p.first.shape p.second.shape)) p.visited before is.visited) in
         let common : is_common p.first p.second u.key ≡ true =
-            (λ i. interior_from p.first u.key (known_f.tree.shape.parents u.key false both.0) both.0 i && interior_from p.second u.key (known_g.tree.shape.parents u.key false both.1) both.1 i) in
+        (λ i. interior_from p.first u.key (known_f.tree.shape.parents u.key false both.0) both.0 i && interior_from p.second u.key (known_g.tree.shape.parents u.key false both.1) both.1 i) in
         let above : u.key.level < p.first.depth = subst (λ (d : ℕ). u.key.level < d) (sym known_f.depth_is) is.above in
         let held : u.held ≡ record { first = haar_of p.first u.key; second = haar_of p.second u.key } =
-            if_some (λ (q : Tree × Tree). u.held ≡ record { first = haar_of q.0 u.key; second = haar_of q.1 u.key }) (both_read job l r) (p.first, p.second) (trees job planned u.command l r is.command.at) (if_before (standing job u.command) before is.held) in
+        if_some (λ (q : Tree × Tree). u.held ≡ record { first = haar_of q.0 u.key; second = haar_of q.1 u.key }) (both_read job l r) (p.first, p.second) (trees job planned u.command l r is.command.at) (if_before (standing job u.command) before is.held) in
         let one = given_part job planned u.command l r is.command.at u.key false left left_place before first in
         let other = given_part job planned u.command l r is.command.at u.key true right right_place before second in
         let fit = inner_parts_fit p.first p.second known_f.tree known_g.tree (same job planned u.command l r is.command.at u.key place is.key known_f known_g) known_f.shallow known_f.values known_g.values in
@@ -326,8 +276,8 @@ inner_combined l r job u left right planned is first second = (tt, go (standing 
         let part = (inner_parts_follow p.first p.second).common u.key above common in
         given job planned u.command l r is.command.at u.key place is.key known_f known_g (inner_value job.depth u.key u.held left right)
         ((λ i. inner_value job.depth u.key (held i) (one i) (other i))
-            ∙ (λ i. if low i then given_product job.depth u.key (root_sum p.first u.key) (root_sum p.second u.key) (difference p.first u.key *ℤ difference p.second u.key +ℤ pos 2 *ℤ (inner_part p.first p.second (child u.key false) +ℤ inner_part p.first p.second (child u.key true))) else Bad)
-            ∙ product_given job planned u.command l r is.command.at u.key place is.key known_f known_g (difference p.first u.key *ℤ difference p.second u.key +ℤ pos 2 *ℤ (inner_part p.first p.second (child u.key false) +ℤ inner_part p.first p.second (child u.key true))) (sym part))
+        ∙ (λ i. if low i then given_product job.depth u.key (root_sum p.first u.key) (root_sum p.second u.key) (difference p.first u.key *ℤ difference p.second u.key +ℤ pos 2 *ℤ (inner_part p.first p.second (child u.key false) +ℤ inner_part p.first p.second (child u.key true))) else Bad)
+        ∙ product_given job planned u.command l r is.command.at u.key place is.key known_f known_g (difference p.first u.key *ℤ difference p.second u.key +ℤ pos 2 *ℤ (inner_part p.first p.second (child u.key false) +ℤ inner_part p.first p.second (child u.key true))) (sym part))
 
     go : (s : Standing) → standing job u.command ≡ s → IsRightGive job u.command u.key (inner_value job.depth u.key u.held left right)
     go Before before = early before

@@ -1,6 +1,7 @@
--- What is known of the versions before the first command that overflows: they are trees whose values a cell may have.
+-- Lemmas that crates above use: what is known of the versions before the first command that overflows: they are trees whose
+-- values a cell may have.
 use Rattle.std.proofs.Common.{◌≡◌, ◌⊎◌, ℕ, zero, suc, ◌+◌, ◌*◌, ◌<◌, ◌≤◌, Bool, true, false, List, [], ◌∷◌, refl, sym, ap, ◌∙◌, subst, arith, ⊎_elim}
-use Rattle.std.specs.Prelude.{◌==◌, nat_lt, if◌then◌else◌, take, slice_get, Option, Some, None, IfSome}
+use Rattle.std.specs.Prelude.{◌==◌, if◌then◌else◌, take, slice_get, Option, Some, None, IfSome}
 use Rattle.std.specs.List.{fold}
 use Rattle.std.specs.Option.{option_map_or, option_and_then}
 use Rattle.std.specs.Int.RustNames.{unsigned_abs}
@@ -16,7 +17,7 @@ use Rattle.tree_model.specs.Versions.{Version, Versions, no_versions, written, a
 use Rattle.tree_model.proofs.LeafSumLemmas.{leaf_shows}
 use Rattle.tree_model.proofs.StoredTreeLemmas.{leaves_within}
 use Rattle.job_data.specs.Checks.{IsJob}
-use Rattle.haar_units.specs.ModelJobs.{command_at, versions_before, version_at}
+use Rattle.haar_units.specs.ModelJobs.{command_at, versions_before}
 use Rattle.haar_units.proofs.EffectLemmas.{some_is, none_is}
 use Rattle.haar_units.proofs.JobTraversalLemmas.{command_of}
 use Rattle.haar_units.proofs.VersionLemmas.{TreeOf, writes_trees, trees_of_job}
@@ -51,7 +52,7 @@ some_if P (Some a) each = each a refl
 
 -- where numbers stand to one of them
 
-from_first : (number first : ℕ) → first ≤ number → standing_to number (Some first) ≡ (if number == first then At else After)
+pub from_first : (number first : ℕ) → first ≤ number → standing_to number (Some first) ≡ (if number == first then At else After)
 from_first number first le = ap (λ (b : Bool). if b then Before else if number == first then At else After) (le-ltb number first le)
 
 past_first : (number first : ℕ) → first < number → standing_to number (Some first) ≡ After
@@ -93,7 +94,7 @@ fine_from depth versions number (d ∷ ds) i c at = go i at (λ j there. fine_fr
         rec i at (subst (λ (n : ℕ). standing_to n (overflow_from depth (after depth versions d) (number + 1) ds) ≡ Before) same e)
 
 -- numbers before that of a list's first command are before an overflow in it
-none_earlier : (depth : ℕ) (versions : Versions) (number least : ℕ) (cs : List Command) → least < number → standing_to least (overflow_from depth versions number cs) ≡ Before
+pub none_earlier : (depth : ℕ) (versions : Versions) (number least : ℕ) (cs : List Command) → least < number → standing_to least (overflow_from depth versions number cs) ≡ Before
 none_earlier depth versions number least [] lt = refl
 none_earlier depth versions number least (d ∷ ds) lt = go (command_overflows depth versions d) (none_earlier depth (after depth versions d) (number + 1) least ds (omega (arith, lt)))
   where
@@ -159,12 +160,17 @@ version_is_over job (suc n) version at e =
     let over = over_from job.depth no_versions 1 job.commands n of.c of.at (subst (λ (m : ℕ). standing_to m (first_overflow (job_of job)) ≡ At) same at) in
     version_overflows job.depth (versions_behind job.depth (take n job.commands)) of.c version true of.gives over
 
+-- a command at which the first overflow is does so
+pub command_is_over : (job : PlannedJob) (n : ℕ) (c : Command) → slice_get job.commands n ≡ Some c → standing job (suc n) ≡ At → command_overflows job.depth (versions_behind job.depth (take n job.commands)) c ≡ true
+command_is_over job n c is at =
+    let same : suc n ≡ 1 + n = omega arith in
+    over_from job.depth no_versions 1 job.commands n c is (subst (λ (m : ℕ). standing_to m (first_overflow (job_of job)) ≡ At) same at)
+
 -- a command that writes no version doesn't overflow
 pub no_version_not_over : {A : Type 0} (job : PlannedJob) (number : ℕ) (c : Command) → command_at job.commands number ≡ Some c → version_of job number ≡ None → standing job number ≡ At → A
 no_version_not_over job zero c there none at = none_is c there
 no_version_not_over job (suc n) c there none at = absurd (
-    let same : suc n ≡ 1 + n = omega arith in
-    let over = over_from job.depth no_versions 1 job.commands n c there (subst (λ (m : ℕ). standing_to m (first_overflow (job_of job)) ≡ At) same at) in
+    let over = command_is_over job n c there at in
     let own : written job.depth (versions_behind job.depth (take n job.commands)) c ≡ None = sym (ap (option_and_then (written job.depth (versions_behind job.depth (take n job.commands)))) there) ∙ none in
     let fine : command_overflows job.depth (versions_behind job.depth (take n job.commands)) c ≡ false = ap (λ (o : Option Version). option_map_or (λ (v : Version). overflows v.tree) o false) own in
     cc)

@@ -1,6 +1,6 @@
 -- The lines of the keys in a box, from those of its halves.
-use Rattle.std.proofs.Common.{◌≡◌, ℕ, zero, suc, ◌+◌, ◌*◌, ◌<◌, ◌≤◌, ◌^◌, Bool, true, false, List, [], ◌∷◌, ◌++◌, length, refl, sym, ap, ◌∙◌, subst, arith, append-nil, append_assoc}
-use Rattle.std.specs.Prelude.{◌&&◌, ◌==◌, not, if◌then◌else◌, filter, map}
+use Rattle.std.proofs.Common.{◌≡◌, ℕ, zero, suc, ◌+◌, ◌*◌, ◌^◌, Bool, true, false, List, [], ◌∷◌, ◌++◌, refl, sym, ap, ◌∙◌, arith, append-nil, append_assoc}
+use Rattle.std.specs.Prelude.{◌&&◌, not, if◌then◌else◌, filter, map}
 use Rattle.std.specs.List.{flat_map, range_with_len}
 use Rattle.std.proofs.lemmas.List.{map-append}
 use Rattle.tree_key.specs.Keys.{Key, child}
@@ -8,7 +8,6 @@ use Rattle.tree_key.proofs.BoxLemmas.{same_key}
 use Rattle.tree_key.proofs.PowerLemmas.{twice}
 use Rattle.tree_model.specs.Nodes.{Form}
 use Rattle.tree_model.specs.Nodes.Form.{Reconstructed, Compressed}
-use Rattle.tree_model.specs.Shapes.{is_leaf, is_interior}
 use Rattle.tree_model.specs.Trees.{Tree, IsTree}
 use Rattle.tree_model.proofs.RangeLemmas.{range_split}
 use Rattle.haar_lines.specs.Rows.{row_put, rows_put, beside}
@@ -37,7 +36,7 @@ map_range f g a b zero same = refl
 map_range f g a b (suc n) same =
     let first : f a ≡ g b = let left : a + 0 ≡ a = omega arith in let right : b + 0 ≡ b = omega arith in sym (ap f left) ∙ same 0 ∙ ap g right in
     let more : map f (range_with_len (a + 1) n) ≡ map g (range_with_len (b + 1) n) = map_range f g (a + 1) (b + 1) n (λ i.
-        let left : a + 1 + i ≡ a + (1 + i) = omega arith in let right : b + (1 + i) ≡ b + 1 + i = omega arith in ap f left ∙ same (1 + i) ∙ ap g right) in
+    let left : a + 1 + i ≡ a + (1 + i) = omega arith in let right : b + (1 + i) ≡ b + 1 + i = omega arith in ap f left ∙ same (1 + i) ∙ ap g right) in
     (λ i. first i ∷ more i)
 
 keys_zero : (k : Key) → keys_below k 0 ≡ k ∷ []
@@ -73,7 +72,7 @@ keys_split k n =
     ∙ ap (map (key_below k (suc n))) (range_split 0 (2 ^ n) (2 ^ n))
     ∙ map-append (key_below k (suc n)) (range_with_len 0 (2 ^ n)) (range_with_len (0 + 2 ^ n) (2 ^ n))
     ∙ (λ i. map_range (key_below k (suc n)) (key_below (child k false) n) 0 0 (2 ^ n) (left_key k n) i
-        ++ map_range (key_below k (suc n)) (key_below (child k true) n) (0 + 2 ^ n) 0 (2 ^ n) (right_key k n) i)
+    ++ map_range (key_below k (suc n)) (key_below (child k true) n) (0 + 2 ^ n) 0 (2 ^ n) (right_key k n) i)
 
 -- their lines
 

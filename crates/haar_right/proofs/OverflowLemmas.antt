@@ -1,5 +1,5 @@
 -- Overflow on the box of a key.
-use Rattle.std.proofs.Common.{◌≡◌, ℕ, zero, suc, ◌+◌, ◌-◌, ◌*◌, ◌<◌, ◌≤◌, ◌^◌, Bool, true, false, List, [], ◌∷◌, length, take, drop, refl, sym, ap, ◌∙◌, subst, arith, length-take, ℤ, pos, ◌+ℤ◌, ◌-ℤ◌, ◌*ℤ◌}
+use Rattle.std.proofs.Common.{◌≡◌, ℕ, ◌-◌, ◌*◌, ◌<◌, ◌≤◌, ◌^◌, Bool, true, false, List, [], ◌∷◌, length, drop, refl, sym, ap, ◌∙◌, subst, arith, length-take, ℤ, pos, ◌*ℤ◌}
 use Rattle.std.specs.Prelude.{◌||◌, nat_le, not, map}
 use Rattle.std.specs.Int.RustNames.{unsigned_abs, int_div}
 use Rattle.std.specs.List.{AllByRecursion, list_any, zip}
@@ -13,7 +13,7 @@ use Rattle.tree_model.specs.Functions.{max_value, max_depth, is_value}
 use Rattle.tree_model.specs.Nodes.{max_number}
 use Rattle.tree_model.specs.Operations.{product}
 use Rattle.tree_model.specs.StoredTrees.{IsWhole}
-use Rattle.tree_model.specs.Trees.{Tree, IsTree, HasValues, total, box_sum, box_values, difference}
+use Rattle.tree_model.specs.Trees.{Tree, IsTree, HasValues, box_sum, box_values, difference}
 use Rattle.tree_model.proofs.BelowLeafLemmas.{key_parts}
 use Rattle.tree_model.proofs.BoundLemmas.{total_within}
 use Rattle.tree_model.proofs.BoxSumLemmas.{Are, total_are, values_on, values_on_halves, length_values_on}
@@ -141,9 +141,9 @@ product_on f g k tree_f tree_g tree same whole_f whole_g whole =
     let cells : length f.cells ≡ length g.cells = tree_f.cells ∙ ap (λ (d : ℕ). 2 ^ d) (sym same) ∙ sym tree_g.cells in
     let ys : values_on f.depth k g.cells ≡ box_values g k = ap (λ (d : ℕ). values_on d k g.cells) (sym same) in
     let zipped : box_values (product f g) k ≡ map (λ p. p.0 *ℤ p.1) (zip (box_values f k) (box_values g k)) =
-        slice_zip (λ p. p.0 *ℤ p.1) (first_cell f.depth k) w f.cells g.cells cells ∙ ap (λ (zs : List ℤ). map (λ p. p.0 *ℤ p.1) (zip (box_values f k) zs)) ys in
+    slice_zip (λ p. p.0 *ℤ p.1) (first_cell f.depth k) w f.cells g.cells cells ∙ ap (λ (zs : List ℤ). map (λ p. p.0 *ℤ p.1) (zip (box_values f k) zs)) ys in
     let are : Are (one_f.value *ℤ one_g.value) (box_values (product f g) k) =
-        subst (Are (one_f.value *ℤ one_g.value)) (sym zipped) (are_products one_f.value one_g.value (box_values f k) (box_values g k) (len_f ∙ sym len_g) one_f.are one_g.are) in
+    subst (Are (one_f.value *ℤ one_g.value)) (sym zipped) (are_products one_f.value one_g.value (box_values f k) (box_values g k) (len_f ∙ sym len_g) one_f.are one_g.are) in
     let len : length (box_values (product f g) k) ≡ w = length_values_on (product f g) k tree key.level key.at in
     let values : one_f.value *ℤ one_g.value ≡ product_value (box_sum f k) (box_sum g k) w = sym (λ i. value_f i *ℤ value_g i) in
     let sum : box_sum (product f g) k ≡ pos w *ℤ (one_f.value *ℤ one_g.value) = total_are (one_f.value *ℤ one_g.value) (box_values (product f g) k) are ∙ ap (λ (m : ℕ). pos m *ℤ (one_f.value *ℤ one_g.value)) len in

@@ -1,5 +1,5 @@
--- What each command of a job reads, visits and writes, by the numbers of versions.
-use Rattle.std.proofs.Common.{◌≡◌, ℕ, zero, suc, ◌+◌, ◌<◌, ◌≤◌, Bool, true, false, List, [], ◌∷◌, ◌++◌, length, refl, sym, ap, ◌∙◌, subst, arith, length-take}
+-- Lemmas that crates above use: what each command of a job reads, visits and writes, by the numbers of versions.
+use Rattle.std.proofs.Common.{◌≡◌, ℕ, zero, suc, ◌+◌, ◌<◌, ◌≤◌, Bool, true, false, List, [], ◌∷◌, ◌++◌, length, refl, sym, ap, ◌∙◌, subst, arith}
 use Rattle.std.specs.Prelude.{◌&&◌, if◌then◌else◌, take, drop, slice_get, Option, Some, None, is_some, ℤ}
 use Rattle.std.specs.Option.{option_map, option_and_then}
 use Rattle.std.proofs.lemmas.Bool.{and_parts}
@@ -15,7 +15,7 @@ use Rattle.tree_model.specs.Trees.{Tree}
 use Rattle.tree_model.specs.Versions.{Version, Versions, no_versions, same_form, tree_in, two_trees, written, newer, after, versions_behind}
 use Rattle.haar_node.specs.declared.Func.{Func}
 use Rattle.haar_node.specs.Func.{function_of}
-use Rattle.job_data.specs.Checks.{IsJob, form_behind}
+use Rattle.job_data.specs.Checks.{IsJob}
 use Rattle.job_data.specs.Data.{form_of}
 use Rattle.job_data.specs.Meaning.{HasMeaning, version_form}
 use Rattle.job_data.specs.Versions.{version_from, version_behind}
@@ -23,16 +23,14 @@ use Rattle.job_data.specs.declared.TreeForm.{TreeForm}
 use Rattle.job_data.proofs.MeaningLemmas.{job_meaning, job_forms}
 use Rattle.job_data.proofs.WriterLemmas.{written_form_writes}
 use Rattle.job_words.specs.declared.names.Name.{Name}
-use Rattle.haar_units.specs.ModelJobs.{command_at, versions_before, keys_at, version_at}
+use Rattle.haar_units.specs.ModelJobs.{keys_at}
 use Rattle.haar_units.proofs.EffectLemmas.{some_is, none_is}
-use Rattle.haar_base.specs.declared.operation.Operation.{Operation}
-use Rattle.haar_base.specs.declared.operation.Operation.TheVariants.{Project, Refine, Coarsen, Compress, Reconstruct, Add, Mul, Inner, Print, Size, Fence}
-use Rattle.haar_base.specs.Operations.{operation_at}
-use Rattle.haar_meaning.specs.PlannedJobs.{PlannedJob, IsPlannedJob, HasPlan, IsPlan, job_of, version_of, commands_before}
+use Rattle.haar_base.specs.declared.operation.Operation.TheVariants.{Project, Refine, Coarsen, Compress, Reconstruct, Add, Mul, Inner, Print}
+use Rattle.haar_meaning.specs.PlannedJobs.{PlannedJob, IsPlannedJob, HasPlan, IsPlan, job_of, version_of}
 
 -- lists of commands
 
-take_more : (cs : List Command) (n : ℕ) (c : Command) → slice_get cs n ≡ Some c → take (suc n) cs ≡ take n cs ++ c ∷ []
+pub take_more : (cs : List Command) (n : ℕ) (c : Command) → slice_get cs n ≡ Some c → take (suc n) cs ≡ take n cs ++ c ∷ []
 take_more [] n c e = none_is c e
 take_more (x ∷ cs) zero c e = ap (λ (y : Command). y ∷ []) (some_is x c e)
 take_more (x ∷ cs) (suc n) c e = ap (λ (ys : List Command). x ∷ ys) (take_more cs n c e)
@@ -43,7 +41,7 @@ take_all [] (suc n) e = refl
 take_all (x ∷ cs) zero e = absurd (cc)
 take_all (x ∷ cs) (suc n) e = ap (λ (ys : List Command). x ∷ ys) (take_all cs n e)
 
-split_at : (cs : List Command) (n : ℕ) (c : Command) → slice_get cs n ≡ Some c → cs ≡ take n cs ++ c ∷ drop (suc n) cs
+pub split_at : (cs : List Command) (n : ℕ) (c : Command) → slice_get cs n ≡ Some c → cs ≡ take n cs ++ c ∷ drop (suc n) cs
 split_at [] n c e = none_is c e
 split_at (x ∷ cs) zero c e = ap (λ (y : Command). y ∷ cs) (some_is x c e)
 split_at (x ∷ cs) (suc n) c e = ap (λ (ys : List Command). x ∷ ys) (split_at cs n c e)
@@ -53,7 +51,7 @@ take_drop cs zero = refl
 take_drop [] (suc n) = refl
 take_drop (x ∷ cs) (suc n) = ap (λ (ys : List Command). x ∷ ys) (take_drop cs n)
 
-length_at : (cs : List Command) (n : ℕ) (c : Command) → slice_get cs n ≡ Some c → length (take n cs) ≡ n
+pub length_at : (cs : List Command) (n : ℕ) (c : Command) → slice_get cs n ≡ Some c → length (take n cs) ≡ n
 length_at [] n c e = none_is c e
 length_at (x ∷ cs) zero c e = refl
 length_at (x ∷ cs) (suc n) c e = ap suc (length_at cs n c e)
@@ -246,7 +244,7 @@ module _ (job : PlannedJob) (planned : IsPlannedJob job) where
       go (Command.Refine name down_to) at plan =
           subst (λ (l : ℕ). Refines (suc n) l source) plan.0
           (one_read n (Command.Refine name down_to) name source Reconstructed (option_map (λ t. version_with Reconstructed (refined down_to t))) (option_map (λ t. over (refined down_to t).shape))
-              at plan.1 (only n (Command.Refine name down_to) name Reconstructed (meaning_at n (Command.Refine name down_to) at).reads) refl refl)
+          at plan.1 (only n (Command.Refine name down_to) name Reconstructed (meaning_at n (Command.Refine name down_to) at).reads) refl refl)
       go _ at plan = absurd plan
 
   abbrev pub Coarsens : ℕ → ℕ → Type 0
@@ -259,7 +257,7 @@ module _ (job : PlannedJob) (planned : IsPlannedJob job) where
       go : (c : Command) → slice_get job.commands n ≡ Some c → IsPlan (take n job.commands) c (Coarsen source) → Coarsens (suc n) source
       go (Command.Coarsen name) at plan =
           one_read n (Command.Coarsen name) name source Reconstructed (option_map (λ t. version_with Reconstructed (coarsened t))) (option_map over_coarsened)
-              at plan (only n (Command.Coarsen name) name Reconstructed (meaning_at n (Command.Coarsen name) at).reads) refl refl
+          at plan (only n (Command.Coarsen name) name Reconstructed (meaning_at n (Command.Coarsen name) at).reads) refl refl
       go _ at plan = absurd plan
 
   abbrev pub Compresses : ℕ → ℕ → Type 0
@@ -272,7 +270,7 @@ module _ (job : PlannedJob) (planned : IsPlannedJob job) where
       go : (c : Command) → slice_get job.commands n ≡ Some c → IsPlan (take n job.commands) c (Compress source) → Compresses (suc n) source
       go (Command.Compress name) at plan =
           one_read n (Command.Compress name) name source Reconstructed (option_map (λ t. version_with Compressed t)) (option_map (λ t. over t.shape))
-              at plan (only n (Command.Compress name) name Reconstructed (meaning_at n (Command.Compress name) at).reads) refl refl
+          at plan (only n (Command.Compress name) name Reconstructed (meaning_at n (Command.Compress name) at).reads) refl refl
       go _ at plan = absurd plan
 
   abbrev pub Reconstructs : ℕ → ℕ → Type 0
@@ -285,7 +283,7 @@ module _ (job : PlannedJob) (planned : IsPlannedJob job) where
       go : (c : Command) → slice_get job.commands n ≡ Some c → IsPlan (take n job.commands) c (Reconstruct source) → Reconstructs (suc n) source
       go (Command.Reconstruct name) at plan =
           one_read n (Command.Reconstruct name) name source Compressed (option_map (λ t. version_with Reconstructed t)) (option_map (λ t. over t.shape))
-              at plan (only n (Command.Reconstruct name) name Compressed (meaning_at n (Command.Reconstruct name) at).reads) refl refl
+          at plan (only n (Command.Reconstruct name) name Compressed (meaning_at n (Command.Reconstruct name) at).reads) refl refl
       go _ at plan = absurd plan
 
   abbrev pub Adds : ℕ → ℤ → ℕ → ℤ → ℕ → Type 0
@@ -299,7 +297,7 @@ module _ (job : PlannedJob) (planned : IsPlannedJob job) where
       go (Command.Add name x f y g) at plan =
           subst (λ (z : ℤ). Adds (suc n) z left b right) plan.0 (subst (λ (z : ℤ). Adds (suc n) x left z right) plan.2
           (two_read n (Command.Add name x f y g) f g left right Compressed (option_map (λ p. version_with Compressed (weighted_sum x p.0 y p.1))) (option_map (λ p. over (union p.0.shape p.1.shape)))
-              at plan.1 plan.3 (meaning_at n (Command.Add name x f y g) at).reads refl refl))
+          at plan.1 plan.3 (meaning_at n (Command.Add name x f y g) at).reads refl refl))
       go _ at plan = absurd plan
 
   abbrev pub Multiplies : ℕ → ℕ → ℕ → Type 0
@@ -312,7 +310,7 @@ module _ (job : PlannedJob) (planned : IsPlannedJob job) where
       go : (c : Command) → slice_get job.commands n ≡ Some c → IsPlan (take n job.commands) c (Mul left right) → Multiplies (suc n) left right
       go (Command.Mul name f g) at plan =
           two_read n (Command.Mul name f g) f g left right Reconstructed (option_map (λ p. version_with Reconstructed (product p.0 p.1))) (option_map (λ p. over (union p.0.shape p.1.shape)))
-              at plan.0 plan.1 (meaning_at n (Command.Mul name f g) at).reads refl refl
+          at plan.0 plan.1 (meaning_at n (Command.Mul name f g) at).reads refl refl
       go _ at plan = absurd plan
 
   abbrev pub Inners : ℕ → ℕ → ℕ → Type 0
@@ -325,7 +323,7 @@ module _ (job : PlannedJob) (planned : IsPlannedJob job) where
       go : (c : Command) → slice_get job.commands n ≡ Some c → IsPlan (take n job.commands) c (Inner left right) → Inners (suc n) left right
       go (Command.Inner f g) at plan =
           two_read n (Command.Inner f g) f g left right Compressed (λ o. None) (option_map (λ p. over (intersection p.0.shape p.1.shape)))
-              at plan.0 plan.1 (meaning_at n (Command.Inner f g) at).reads refl refl
+          at plan.0 plan.1 (meaning_at n (Command.Inner f g) at).reads refl refl
       go _ at plan = absurd plan
 
   abbrev pub Prints : ℕ → ℕ → TreeForm → Type 0
@@ -353,32 +351,5 @@ module _ (job : PlannedJob) (planned : IsPlannedJob job) where
             read = s.read;
             written = ap (option_and_then (written job.depth (before n))) at;
             visited = ap (option_and_then (visits_of job.depth (before n))) at ∙ ap (option_map (λ (version : Version). over version.tree.shape)) (version_in (form_of form) (before n name) s.tree s.named);
-          }
-      go _ at plan = absurd plan
-
-  pub record Counts (command source : ℕ) : Type 0 where
-    pub earlier : source < command
-    pub version : Version
-    pub is : version_of job source ≡ Some version
-    pub written : version_of job command ≡ None
-
-  any_version : (o : Option Version) → is_some (option_map (λ (version : Version). version.tree) o) ≡ true → (v : Version) × (o ≡ Some v)
-  any_version None e = absurd (cc)
-  any_version (Some v) e = (v, refl)
-
-  pub size_plan : (command source : ℕ) → HasPlan job.commands command (Size source) → Counts command source
-  size_plan zero source plan = none_is plan.command plan.at
-  size_plan (suc n) source plan = go plan.command plan.at plan.plan
-    where
-      go : (c : Command) → slice_get job.commands n ≡ Some c → IsPlan (take n job.commands) c (Size source) → Counts (suc n) source
-      go (Command.Size name) at plan =
-          let reads = (and_parts (is_some (option_map (λ (version : Version). version.tree) (before n name))) true (meaning_at n (Command.Size name) at).reads).0 in
-          let found = any_version (before n name) reads in
-          let below : version_behind (take n job.commands) name < suc n = version_below 1 0 (suc n) (take n job.commands) name (omega arith) (omega (arith, length_at job.commands n (Command.Size name) at)) in
-          record {
-            earlier = subst (λ (m : ℕ). m < suc n) plan below;
-            version = found.0;
-            is = sym (name_stands job planned.checked name n ∙ ap (version_of job) plan) ∙ found.1;
-            written = ap (option_and_then (written job.depth (before n))) at;
           }
       go _ at plan = absurd plan

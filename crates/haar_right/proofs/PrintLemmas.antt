@@ -1,104 +1,45 @@
 -- Units of `print` decide rightly.
-use Rattle.std.proofs.Common.{◌≡◌, ◌⊎◌, inl, inr, ⊎_elim, ℕ, zero, suc, ◌+◌, ◌*◌, ◌<◌, ◌≤◌, ◌^◌, Bool, true, false, List, [], ◌∷◌, ◌++◌, refl, sym, ap, ◌∙◌, subst, arith, ℤ, pos, ◌+ℤ◌, ◌-ℤ◌, ◌*ℤ◌}
-use Rattle.std.specs.Prelude.{◌&&◌, ◌||◌, ◌==◌, nat_le, nat_lt, not, if◌then◌else◌, Option, Some, None, IfSome, ⊤, slice_get}
-use Rattle.std.specs.Int.RustNames.{unsigned_abs, int_div, int_rem}
-use Rattle.std.specs.List.{list_any, list_all}
-use Rattle.std.specs.Option.{option_map, unwrap_or}
-use Rattle.std.proofs.lemmas.Bool.{and_parts, eqb-true, eq-eqb, ne_eqb, and_from, leb-false, lt-leb, lt-ltb, le-leb, leb-true, ltb-true, ltb-false, false_from_ne_true, cases_Bool, and_right, or_cases}
-use Rattle.std.proofs.lemmas.Int.{ints}
-use Rattle.std.proofs.lemmas.Nat.{pow_pos}
-use Rattle.std.proofs.lemmas.List.Folds.{list_any-append, list_any_none, list_any_at}
-use Rattle.tree_key.specs.Keys.{Key, child, place_of, width, first_cell}
+use Rattle.std.proofs.Common.{◌≡◌, ℕ, ◌+◌, ◌<◌, ◌^◌, Bool, true, false, List, [], ◌∷◌, refl, sym, ap, ◌∙◌, subst, arith, ℤ, pos}
+use Rattle.std.specs.Prelude.{◌&&◌, ◌==◌, nat_lt, not, if◌then◌else◌, Option, Some, None}
+use Rattle.std.proofs.lemmas.Bool.{eqb-true, eq-eqb, ne_eqb, lt-ltb}
+use Rattle.tree_key.specs.Keys.{Key, child}
 use Rattle.tree_key.proofs.FamilyLemmas.{child_fits}
-use Rattle.tree_model.specs.Functions.{fits, max_value, max_depth, is_value}
-use Rattle.tree_model.specs.Nodes.{Form, max_number, node as tree_node}
+use Rattle.tree_model.specs.Nodes.{Form}
 use Rattle.tree_model.specs.Nodes.Form.{Reconstructed, Compressed}
-use Rattle.tree_model.specs.Nodes.Node.{Leaf as LeafData, Branch as BranchData, Inner as InnerData, Root as RootData, Bare as BareData}
-use Rattle.tree_model.specs.Operations.{refined, coarsened, union, weighted_sum, product, overflows}
-use Rattle.tree_model.specs.Project.{Projection, is_split, projected, projected_shape}
-use Rattle.tree_model.specs.Products.{is_common, inner_product, inner_part}
+use Rattle.tree_model.specs.Operations.{product}
 use Rattle.tree_model.specs.Shapes.{is_key_of, is_leaf, is_interior}
-use Rattle.tree_model.specs.StoredTrees.{IsWhole, IsWholeSum, difference_at}
-use Rattle.tree_model.specs.Totals.{Visits, over, over_coarsened, intersection}
-use Rattle.tree_model.specs.Trees.{Tree, IsTree, HasValues, box_sum, box_values, difference, is_constant}
-use Rattle.tree_model.specs.Versions.{Version, tree_in, two_trees}
-use Rattle.tree_model.proofs.BoundLemmas.{box_sum_within, difference_within}
-use Rattle.tree_model.proofs.BoxSumLemmas.{box_sum_children, values_on_halves, key_of_tree}
-use Rattle.tree_model.proofs.LeafLemmas.{box_sum_leaf}
-use Rattle.tree_model.proofs.RowLemmas.{shape_child}
-use Rattle.tree_model.proofs.StoredTreeLemmas.{values_dont_overflow, projections_with_values, refined_have_values, whole_boxes_of_one_value}
-use Rattle.haar_node.specs.declared.Func.{Func}
+use Rattle.tree_model.specs.StoredTrees.{difference_at}
+use Rattle.tree_model.specs.Totals.{over}
+use Rattle.tree_model.specs.Trees.{Tree, IsTree, box_sum, difference}
+use Rattle.tree_model.specs.Versions.{tree_in}
 use Rattle.haar_node.specs.declared.Node.{Node}
-use Rattle.haar_node.specs.declared.Node.TheVariants as node
-use Rattle.haar_node.specs.Func.{function_of}
-use Rattle.haar_node.specs.Node.{node_of}
-use Rattle.job_data.specs.Checks.{IsJob}
-use Rattle.haar_units.specs.Jobs.{is_on_trees}
-use Rattle.haar_units.specs.ModelJobs.{keys_at}
-use Rattle.haar_units.proofs.EffectLemmas.{some_is, none_is}
 use Rattle.haar_base.specs.declared.operation.Operation.{Operation}
-use Rattle.haar_base.specs.declared.operation.Operation.TheVariants.{Project, Refine, Coarsen, Compress, Reconstruct, Add, Mul, Inner, Print, Size, Fence}
+use Rattle.haar_base.specs.declared.operation.Operation.TheVariants.{Print}
 use Rattle.haar_base.specs.declared.unit.Side.{Side}
-use Rattle.haar_base.specs.declared.unit.Side.TheVariants.{Nothing, Entry, Below}
-use Rattle.haar_base.specs.declared.unit.Sides.{Sides}
 use Rattle.haar_base.specs.declared.unit.Held.{Held}
-use Rattle.haar_base.specs.declared.unit.Down.{Down as DownUnit}
-use Rattle.haar_base.specs.declared.unit.Up.{Up as UpUnit}
 use Rattle.haar_base.specs.declared.value.Value.{Value}
 use Rattle.haar_base.specs.declared.value.Value.TheVariants.{Done, Sum, Product, Lines, Count, Bad}
 use Rattle.haar_base.specs.declared.decisions.Visit.{Visit}
 use Rattle.haar_base.specs.declared.decisions.Visit.TheVariants as visits
-use Rattle.haar_base.specs.declared.decisions.Combination.{Combination}
-use Rattle.haar_base.specs.declared.decisions.Combination.TheVariants as combinations
 use Rattle.haar_base.specs.declared.readings.Leaf.{Leaf}
 use Rattle.haar_base.specs.declared.readings.Leaf.TheVariants.{Whole, Cut, Wrong}
 use Rattle.haar_base.specs.declared.readings.Sums.{Sums}
-use Rattle.haar_base.specs.declared.readings.ChildSides.{ChildSides}
-use Rattle.haar_base.specs.Decisions.{bad_visit, bad_combination, is_done, done}
-use Rattle.haar_base.specs.Numbers.{coefficient}
-use Rattle.haar_base.specs.Operations.{operation_at, word_of, first_source, second_source, is_within, are_within}
-use Rattle.haar_base.specs.Readings.{leaf_at, sums, sums_at, leaf_sides, sides_by, sum_sides, entry, one, nothing_held}
-use Rattle.haar_visits.specs.Visits.{visit, combine}
-use Rattle.haar_visits.specs.Projecting.{visit_by, projected_sum, no_sides}
-use Rattle.haar_visits.specs.Refining.{split_one, refine_cut, refine_leaf, visit_refined}
-use Rattle.haar_visits.specs.Coarsening.{split_entries}
-use Rattle.haar_visits.specs.Compressing.{compressed_node, below_node, compress_leaf, visit_compressed, joined, combine_right, combine_compressed}
-use Rattle.haar_visits.specs.Reconstructing.{reconstruct_by, reconstruct_sums, visit_reconstructed}
-use Rattle.haar_visits.specs.Forms.{IsCombinationOf}
-use Rattle.haar_visits.proofs.FormLemmas.{visited, combined}
+use Rattle.haar_base.specs.Decisions.{bad_visit}
+use Rattle.haar_base.specs.Operations.{operation_at}
+use Rattle.haar_base.specs.Readings.{leaf_at, sums_at, entry, one, nothing_held}
+use Rattle.haar_visits.proofs.FormLemmas.{visited}
 use Rattle.haar_meaning.specs.PlannedJobs.{PlannedJob, IsPlannedJob, Standing, standing, version_of}
 use Rattle.haar_meaning.specs.PlannedJobs.Standing.{Before, At, After}
-use Rattle.haar_meaning.specs.RightValues.{IsMeant, IsOverflow, overflows_on, overflow_value, written_value}
-use Rattle.haar_meaning.specs.RightCells.{stored_node}
-use Rattle.haar_meaning.specs.Sides.{form_read, known_sum, knows_sums, side_of, IsRightSide}
-use Rattle.haar_meaning.specs.JobUnits.{IsVisited, IsDownUnit, IsUpUnit}
-use Rattle.haar_meaning.specs.RightDecisions.{IsRightPut, IsRightGive, IsRightVisit, IsRightCombination}
+use Rattle.haar_meaning.specs.Sides.{knows_sums, IsRightSide}
+use Rattle.haar_meaning.specs.RightDecisions.{IsRightGive}
 use Rattle.haar_right.specs.Laws.{IsRightRead, IsVisitedRightly, IsCombinedRightly}
-use Rattle.haar_right.proofs.KnownLemmas.{IsKnown, before_if, source_is_before, version_is_over, version_is_known, version_is_tree}
-use Rattle.haar_right.proofs.PlanLemmas.{version_with, OneRead, TwoRead, Projects, projection_of, project_plan, refine_plan, Refines, Coarsens, coarsen_plan, compress_plan, Compresses, reconstruct_plan, Reconstructs, Adds, Multiplies, Inners, add_plan, mul_plan, inner_plan}
-use Rattle.haar_right.proofs.ReadingLemmas.{HasCell, leaf_in, leaf_read, sums_read, root_sum, root_sums_read, child_key, none_below, leaf_from, interior_from, child_sides, side_with, no_difference, sides_unknown, sides_below, leaf_children, sums_children}
-use Rattle.haar_right.proofs.DecisionLemmas.{side_is, side_from, read_is_some, cell_is, tree_is_known, known_or_after, fits_of, child_is_key_of, put_right, give_right, given_before, given_over, visited_by, is_visited, AreSides, IsDecision, whole_visit, after_decision, after_put, after_give, FirstOf, SecondOf, NothingSecond, one_side, two_sides}
-use Rattle.haar_right.proofs.WrittenLemmas.{some_of, stored_branch, stored_leaf, stored_sums, stored_compressed, put_written, not_over, overflow_halves, done_right}
-use Rattle.haar_right.proofs.SourceLemmas.{leaf_found, sums_found, root_sums_found, known_source}
-use Rattle.std.specs.Prelude.{is_none, length}
-use Rattle.tree_model.proofs.CombinedSumLemmas.{sums_linear}
-use Rattle.tree_model.proofs.StoredTreeLemmas.{whole_boxes_are_even}
-use Rattle.haar_visits.specs.declared.adding.Factors.{Factors}
-use Rattle.haar_visits.specs.Adding.{weighted, add_leaf, kept_sum, add_difference, split_two, add_cut_by, add_cut, add_both, add_sums, visit_added}
-use Rattle.haar_visits.specs.Multiplying.{is_leaf_sum, product_value, leaf_product, product_sum, multiply_leaf, multiply_cut, multiply_leaves, visit_multiplied}
-use Rattle.haar_visits.specs.Visits.{factors}
-use Rattle.haar_right.proofs.OverflowLemmas.{whole_overflow, box_low, difference_low, sum_low, no_overflow_on, ProductOn, product_on}
-use Rattle.haar_right.proofs.TwoTreeLemmas.{split_first, split_second, value_over, over_not_before, overflow_given, bad_right}
+use Rattle.haar_right.proofs.KnownLemmas.{IsKnown, before_if, source_is_before}
+use Rattle.haar_right.proofs.ReadingLemmas.{leaf_in, root_sum, child_key, leaf_from, interior_from}
+use Rattle.haar_right.proofs.DecisionLemmas.{read_is_some, fits_of, child_is_key_of, give_right, given_before, visited_by, is_visited, IsDecision, whole_visit, after_decision, after_give, FirstOf, NothingSecond, one_side}
+use Rattle.haar_right.proofs.WrittenLemmas.{some_of}
+use Rattle.haar_right.proofs.SourceLemmas.{leaf_found, root_sums_found, known_source}
 use Rattle.tree_key.specs.Keys.{root}
-use Rattle.tree_key.proofs.BoxLemmas.{same_key}
-use Rattle.tree_model.proofs.InnerProductLemmas.{product_law, inner_parts_follow}
-use Rattle.tree_model.proofs.BoundLemmas.{inner_parts_fit}
-use Rattle.tree_model.proofs.IntegerLemmas.{quotient_of_a_multiple}
-use Rattle.haar_base.specs.Numbers.{divides}
-use Rattle.haar_base.specs.declared.unit.Haar.{Haar}
-use Rattle.haar_visits.specs.InnerProducts.{whole_product, given_product, haar, both_entries, inner_by, inner_sums, visit_inner, part_of, inner_parts, inner_right, inner_value, combine_inner}
-use Rattle.haar_meaning.specs.RightValues.{both_read}
-use Rattle.haar_meaning.specs.Sides.{haar_of, IsHeld}
+use Rattle.haar_visits.specs.InnerProducts.{haar}
 use Rattle.haar_right.proofs.KnownLemmas.{if_before, if_some, no_version_not_over}
 use Rattle.job_data.specs.Data.{form_of}
 use Rattle.job_data.specs.declared.TreeForm.{TreeForm}
@@ -110,13 +51,13 @@ use Rattle.haar_base.specs.Readings.{no_haar}
 use Rattle.haar_lines.specs.Texts.{key_line}
 use Rattle.haar_lines.specs.Rows.{beside}
 use Rattle.haar_visits.specs.declared.printing.Printed.{Printed}
-use Rattle.haar_visits.specs.Printing.{heading, headed, print_key, print_cut, print_leaf, print_by, print_sums, visit_in, visit_printed, own_line, print_rows, print_right, print_value, combine_printed}
-use Rattle.haar_meaning.specs.Printed.{heading_of, lines_below, has_line, line_of, AreLinesOf, AreRightRows, ArePrinted}
+use Rattle.haar_visits.specs.Printing.{heading, headed, print_key, print_cut, print_leaf, print_by, print_sums, visit_in, own_line, print_value}
+use Rattle.haar_meaning.specs.Printed.{heading_of, lines_below, AreLinesOf, AreRightRows, ArePrinted}
 use Rattle.haar_meaning.specs.RightValues.{HasLines}
 use Rattle.haar_meaning.specs.Sides.{printed_haar}
 use Rattle.haar_right.proofs.PlanLemmas.{Prints, print_plan}
 use Rattle.haar_right.proofs.CompressLemmas.{cut_there}
-use Rattle.haar_right.proofs.InnerLemmas.{SumsAt, any_sums, cut_of, entries_is, diff_is, root_key}
+use Rattle.haar_right.proofs.InnerLemmas.{any_sums, cut_of, entries_is, diff_is, root_key}
 
 -- whatever is read, the second tree is none
 
@@ -217,12 +158,11 @@ module _ (job : PlannedJob) (planned : IsPlannedJob job) (command source : ℕ) 
     splits : (held : Held) → t.shape (child k false) ≡ true → held ≡ record { first = printed_haar form t k; second = no_haar } → IsDecision job command operation k place (print_cut job.depth k held)
     splits held cut is =
         let high : k.level < job.depth = subst (λ (d : ℕ). k.level < d) known.depth_is (child_key t k false known.tree cut) in
-        subst (λ (b : Bool). IsDecision job command operation k place (if b then visits.Split None (one entry) (one entry) held else bad_visit false)) (sym (lt-ltb k.level job.depth high))
-        (
+        subst (λ (b : Bool). IsDecision job command operation k place (if b then visits.Split None (one entry) (one entry) held else bad_visit false)) (sym (lt-ltb k.level job.depth high)) (
           tt,
           visited_by job command operation (child k false) (child_fits k.level k.at false place) (over t.shape) plan.visited (λ before. cut),
           visited_by job command operation (child k true) (child_fits k.level k.at true place) (over t.shape) plan.visited (λ before. known.tree.shape.children k ∙ cut),
-          before_if (standing job command) (λ before. some_of (λ (tree : Tree). held ≡ record { first = printed_haar form tree k; second = no_haar }) (tree_in (form_of form) (version_of job source)) t plan.read is)
+          before_if (standing job command) (λ before. some_of (λ (tree : Tree). held ≡ record { first = printed_haar form tree k; second = no_haar }) (tree_in (form_of form) (version_of job source)) t plan.read is),
         )
 
 -- in the two forms
@@ -242,7 +182,7 @@ module _ (job : PlannedJob) (planned : IsPlannedJob job) (command source : ℕ) 
       → (known : IsKnown job.depth (plan job planned command source forms.Compressed name at).tree) → (plan job planned command source forms.Compressed name at).tree.shape k ≡ true
       → (cut : Bool) → (plan job planned command source forms.Compressed name at).tree.shape (child k false) ≡ cut
       → IsDecision job command (Print source forms.Compressed name) k place
-          (print_by job.depth (record { form = forms.Compressed; name = name }) k (root_sum (plan job planned command source forms.Compressed name at).tree k) (if cut then Some (difference (plan job planned command source forms.Compressed name at).tree k) else None))
+      (print_by job.depth (record { form = forms.Compressed; name = name }) k (root_sum (plan job planned command source forms.Compressed name at).tree k) (if cut then Some (difference (plan job planned command source forms.Compressed name at).tree k) else None))
   sums_decision at k place key known inside true is =
       let t = (plan job planned command source forms.Compressed name at).tree in
       splits job planned command source forms.Compressed name at k place key known (record { first = haar (root_sum t k) (difference t k); second = no_haar }) is refl
@@ -266,7 +206,7 @@ module _ (job : PlannedJob) (planned : IsPlannedJob job) (command source : ℕ) 
       let found = root_sums_found job (Print source forms.Compressed name) source k side cell p.tree before refl inside p.read p.read right read in
       subst (λ (v : Visit). IsDecision job command (Print source forms.Compressed name) k place v)
       (sym ((λ i. print_sums job.depth (record { form = forms.Compressed; name = name }) k (found i))
-          ∙ (λ i. print_by job.depth (record { form = forms.Compressed; name = name }) k (root_sum p.tree k) (diff_is p.tree k (p.tree.shape (child k false)) inside refl i))))
+      ∙ (λ i. print_by job.depth (record { form = forms.Compressed; name = name }) k (root_sum p.tree k) (diff_is p.tree k (p.tree.shape (child k false)) inside refl i))))
       (sums_decision at k place key known inside (p.tree.shape (child k false)) refl)
 
   first_known : (form : TreeForm) (k : Key) (side : Side) (cell : Option Node) → IsRightSide job (Print source form name) source k side → IsRightRead job source k side cell
@@ -289,7 +229,7 @@ print_visited source form name job u first second planned is read other =
     whole_visit job u.command (Print source form name) u.key place is.key is.command (visit_in form job.depth printed u.key u.first first)
     (visited job.depth (Print source form name) u.key (record { first = u.first; second = u.second }) first second refl)
     (one_side job u.command (Print source form name) u.key place (visit_in form job.depth printed u.key u.first first) (read_is_some job (form_of form) source p.tree p.read) refl
-        (first_known job planned u.command source name form u.key u.first first is.first read) (nothing_in form job.depth printed u.key u.first first))
+    (first_known job planned u.command source name form u.key u.first first is.first read) (nothing_in form job.depth printed u.key u.first first))
     (go place (standing job u.command) refl)
   where
     go : (place : u.key.at < 2 ^ u.key.level) → (s : Standing) → standing job u.command ≡ s → IsDecision job u.command (Print source form name) u.key place (visit_in form job.depth (record { form = form; name = name }) u.key u.first first)
@@ -345,7 +285,7 @@ print_combined source form name job u left right planned is first second = (tt, 
         let cut : p.tree.shape (child u.key false) ≡ true = is_visited job u.command (Print source form name) (child u.key false) left_place (over p.tree.shape) p.visited before is.visited in
         let inside : p.tree.shape u.key ≡ true = known.tree.shape.parents u.key false cut in
         let held : u.held ≡ record { first = printed_haar form p.tree u.key; second = no_haar } =
-            if_some (λ (t : Tree). u.held ≡ record { first = printed_haar form t u.key; second = no_haar }) (tree_in (form_of form) (version_of job source)) p.tree p.read (if_before (standing job u.command) before is.held) in
+        if_some (λ (t : Tree). u.held ≡ record { first = printed_haar form t u.key; second = no_haar }) (tree_in (form_of form) (version_of job source)) p.tree p.read (if_before (standing job u.command) before is.held) in
         let l = given_rows job planned u.command source form name is.command.at u.key false left left_place before first in
         let r = given_rows job planned u.command source form name is.command.at u.key true right right_place before second in
         let printed : Printed = record { form = form; name = name } in
@@ -354,7 +294,7 @@ print_combined source form name job u left right planned is first second = (tt, 
         subst (λ (v : Value). IsRightGive job u.command u.key v) (sym (λ i. print_value printed u.key u.held (l.1 i) (r.1 i)))
         (given job planned u.command source form name is.command.at u.key place is.key known (headed printed u.key u.held.first.sum (own_line form u.key u.held ∷ beside l.0 r.0))
         (headed_right printed p.tree u.key u.held.first.sum (own_line form u.key u.held ∷ beside l.0 r.0) place (head_is form name p.tree u.key u.held held place)
-            (cut_lines (form_of form) p.tree u.key (own_line form u.key u.held) l.0 r.0 own l.2 r.2)))
+        (cut_lines (form_of form) p.tree u.key (own_line form u.key u.held) l.0 r.0 own l.2 r.2)))
 
     go : (s : Standing) → standing job u.command ≡ s → IsRightGive job u.command u.key (print_value (record { form = form; name = name }) u.key u.held left right)
     go Before before = early before

@@ -1,5 +1,5 @@
 -- What a down unit finds of a tree at its key, where it knows the tree rightly and reads a right cell.
-use Rattle.std.proofs.Common.{◌≡◌, ℕ, ◌+◌, ◌<◌, ◌≤◌, Bool, true, false, refl, sym, ap, ◌∙◌, subst, arith, ℤ, pos, ◌+ℤ◌, ◌-ℤ◌, ◌*ℤ◌}
+use Rattle.std.proofs.Common.{◌≡◌, ◌+◌, ◌<◌, Bool, true, false, refl, sym, ap, ◌∙◌, arith, ℤ, pos, ◌+ℤ◌, ◌-ℤ◌, ◌*ℤ◌}
 use Rattle.std.specs.Prelude.{◌&&◌, ◌==◌, not, if◌then◌else◌, Option, Some, None}
 use Rattle.std.specs.Option.{option_map}
 use Rattle.std.specs.Int.RustNames.{unsigned_abs, int_rem}
@@ -21,10 +21,9 @@ use Rattle.haar_node.specs.declared.Node.TheVariants as node
 use Rattle.haar_node.specs.Node.{node_of}
 use Rattle.haar_base.specs.declared.operation.Operation.{Operation}
 use Rattle.haar_base.specs.declared.unit.Side.{Side}
-use Rattle.haar_base.specs.declared.unit.Side.TheVariants.{Nothing, Entry, Below}
+use Rattle.haar_base.specs.declared.unit.Side.TheVariants.{Entry, Below}
 use Rattle.haar_base.specs.declared.readings.Leaf.{Leaf}
-use Rattle.haar_base.specs.declared.readings.Leaf.TheVariants.{Whole, Cut, Wrong}
-use Rattle.haar_base.specs.declared.readings.Sums.{Sums}
+use Rattle.haar_base.specs.declared.readings.Leaf.TheVariants.{Whole, Cut}
 use Rattle.haar_base.specs.declared.readings.ChildSides.{ChildSides}
 use Rattle.haar_base.specs.Numbers.{divides, halves}
 use Rattle.haar_base.specs.Readings.{leaf_of, leaf_at, sums, sums_at, both_entries, both_below, leaf_sides, sides_by, entry}
@@ -107,7 +106,7 @@ sums_node root known t k c is inside stored =
 
     go : (root inside cut : Bool) → inside ≡ true
         → sums_at root (Entry known) (Some (coded (if root then RootData (box_sum t k) (if inside && not cut then None else Some (difference t k)) else (if inside && not cut then BareData else InnerData (difference t k)))))
-            ≡ Some (sums (if root then box_sum t k else known) (if inside && cut then Some (difference t k) else None))
+        ≡ Some (sums (if root then box_sum t k else known) (if inside && cut then Some (difference t k) else None))
     go true true true e = refl
     go true true false e = refl
     go false true true e = refl
@@ -176,8 +175,8 @@ child_sides operation t k = record { left = side_of operation t (child k false);
 
 sides_with : (operation : Operation) (t : Tree) (k : Key) (cut : Bool) → IsTree t → t.shape (child k false) ≡ cut
     → child_sides operation t k ≡ record {
-        left = if cut then Entry (known_sum operation t (child k false)) else Below (box_sum t (child k false));
-        right = if cut then Entry (known_sum operation t (child k true)) else Below (box_sum t (child k true));
+      left = if cut then Entry (known_sum operation t (child k false)) else Below (box_sum t (child k false));
+      right = if cut then Entry (known_sum operation t (child k true)) else Below (box_sum t (child k true));
     }
 sides_with operation t k cut tree is = λ i. record { left = side_with operation t (child k false) cut is i; right = side_with operation t (child k true) cut (tree.shape.children k ∙ is) i }
 

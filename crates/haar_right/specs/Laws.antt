@@ -1,9 +1,7 @@
 -- On right inputs each unit decides rightly, before the first command that overflows, at it, and after it.
-use Rattle.std.specs.Prelude.{◌≡◌, ℕ, false, true, List, Option, Some, None, ⊤}
-use Rattle.app_core.specs.Inputs.{AreRight}
+use Rattle.std.specs.Prelude.{ℕ, false, true, Option, Some, None, ⊤}
 use Rattle.tree_key.specs.Keys.{Key, child}
 use Rattle.haar_node.specs.declared.Node.{Node}
-use Rattle.haar_units.specs.Units.{key_future, count_futures}
 use Rattle.haar_base.specs.declared.operation.Operation.{Operation}
 use Rattle.haar_base.specs.declared.unit.Side.{Side}
 use Rattle.haar_base.specs.declared.unit.Side.TheVariants.{Nothing, Entry, Below}
@@ -11,12 +9,10 @@ use Rattle.haar_base.specs.declared.unit.Down.{Down as DownUnit}
 use Rattle.haar_base.specs.declared.unit.Up.{Up as UpUnit}
 use Rattle.haar_base.specs.declared.value.Value.{Value}
 use Rattle.haar_base.specs.Operations.{first_source, second_source}
-use Rattle.haar_visits.specs.Sizing.{total}
 use Rattle.haar_visits.specs.Visits.{visit, combine}
 use Rattle.haar_meaning.specs.PlannedJobs.{PlannedJob, IsPlannedJob}
 use Rattle.haar_meaning.specs.RightCells.{IsStored}
-use Rattle.haar_meaning.specs.JobUnits.{IsDownUnit, IsUpUnit, IsTotalUnit}
-use Rattle.haar_meaning.specs.RightValues.{IsRightValue}
+use Rattle.haar_meaning.specs.JobUnits.{IsDownUnit, IsUpUnit}
 use Rattle.haar_meaning.specs.RightDecisions.{IsRightGive, IsRightVisit, IsRightCombination}
 
 -- a cell is there, and it is right for an entry
@@ -47,9 +43,3 @@ VisitsAreRight = (operation : Operation) → IsVisitedRightly operation
 
 abbrev pub CombinationsAreRight : Type 0
 CombinationsAreRight = (operation : Operation) → IsCombinedRightly operation
-
--- from the right counts of all ranks, the unit that adds them gives the right size
-abbrev pub TotalsAreRight : Type 0
-TotalsAreRight =
-    (job : PlannedJob) (command source ranks : ℕ) (values : List Value) → IsPlannedJob job → IsTotalUnit job command source ranks
-    → AreRight (IsRightValue job) (count_futures command 0 ranks) values → IsRightValue job (key_future command 1) (total values)
