@@ -90,6 +90,7 @@ box_low t k shallow none =
     let wide = mul-le-mul_right (2 ^ 24) all in
     omega (arith, sum, wide)
 
+-- a box with an overflow has one in its left or its right half
 pub halves_overflow : (t : Tree) (k : Key) → k.level < t.depth → overflows_on t k ≡ (overflows_on t (child k false) || overflows_on t (child k true))
 halves_overflow t k above = ap (list_any too_large) (values_on_halves t.depth k t.cells above) ∙ list_any-append too_large (box_values t (child k false)) (box_values t (child k true))
 

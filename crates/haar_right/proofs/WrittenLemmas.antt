@@ -1,15 +1,11 @@
 -- What is stored at a key, what is given by a command that writes a tree, and where the overflow is.
 use Rattle.std.proofs.Common.{◌≡◌, ℕ, ◌<◌, ◌^◌, Bool, true, false, refl, sym, ap, ◌∙◌, subst, ℤ, pos}
 use Rattle.std.specs.Prelude.{◌&&◌, ◌||◌, ◌==◌, not, if◌then◌else◌, Option, Some, None, IfSome}
-use Rattle.std.specs.List.{list_any}
-use Rattle.std.proofs.lemmas.List.Folds.{list_any-append}
 use Rattle.tree_key.specs.Keys.{Key, child}
-use Rattle.tree_model.specs.Functions.{is_value}
 use Rattle.tree_model.specs.Nodes.Form.{Reconstructed, Compressed}
 use Rattle.tree_model.specs.Nodes.Node.{Leaf as LeafData, Branch as BranchData, Inner as InnerData, Root as RootData, Bare as BareData}
-use Rattle.tree_model.specs.Trees.{Tree, HasValues, box_sum, box_values, difference}
+use Rattle.tree_model.specs.Trees.{Tree, HasValues, box_sum, difference}
 use Rattle.tree_model.specs.Versions.{Version}
-use Rattle.tree_model.proofs.BoxSumLemmas.{values_on_halves}
 use Rattle.tree_model.proofs.StoredTreeLemmas.{values_dont_overflow}
 use Rattle.haar_node.specs.declared.Node.{Node}
 use Rattle.haar_node.specs.declared.Node.TheVariants as node
@@ -30,6 +26,7 @@ use Rattle.haar_meaning.specs.JobUnits.{IsUpUnit}
 use Rattle.haar_meaning.specs.RightDecisions.{IsRightPut, IsRightGive, IsRightCombination}
 use Rattle.haar_right.proofs.KnownLemmas.{version_is_over}
 use Rattle.haar_right.proofs.PlanLemmas.{version_with}
+use Rattle.haar_right.proofs.OverflowLemmas.{halves_overflow}
 use Rattle.haar_right.proofs.DecisionLemmas.{fits_of, child_is_key_of, put_right, give_right, given_before, given_over}
 
 pub some_of : {A : Type 0} (P : A → Type 0) (o : Option A) (a : A) → o ≡ Some a → P a → IfSome o P
@@ -78,13 +75,9 @@ put_written job command operation k at w n written each = put_right job command 
 pub not_over : {A : Type 0} (job : PlannedJob) (command : ℕ) (w : Version) → version_of job command ≡ Some w → HasValues w.tree → standing job command ≡ At → A
 not_over job command w written values at = absurd (let over = version_is_over job command w at written in let none = values_dont_overflow w.tree values in cc)
 
--- a box with an overflow has one in its left or its right half
-pub overflow_halves : (t : Tree) (k : Key) → k.level < t.depth → overflows_on t k ≡ (overflows_on t (child k false) || overflows_on t (child k true))
-overflow_halves t k above = ap (list_any (λ z. not (is_value z))) (values_on_halves t.depth k t.cells above) ∙ list_any-append (λ z. not (is_value z)) (box_values t (child k false)) (box_values t (child k true))
-
 -- a key is done where both children are, and overflows where one of them does
 pub done_overflows : (t : Tree) (k : Key) → k.level < t.depth → (if is_done (overflow_value t (child k false)) && is_done (overflow_value t (child k true)) then Done else Bad) ≡ overflow_value t k
-done_overflows t k above = go (overflows_on t (child k false)) (overflows_on t (child k true)) ∙ ap (λ (b : Bool). if b then Bad else Done) (sym (overflow_halves t k above))
+done_overflows t k above = go (overflows_on t (child k false)) (overflows_on t (child k true)) ∙ ap (λ (b : Bool). if b then Bad else Done) (sym (halves_overflow t k above))
   where
     go : (l r : Bool) → (if is_done (if l then Bad else Done) && is_done (if r then Bad else Done) then Done else Bad) ≡ (if l || r then Bad else Done)
     go true r = refl
