@@ -1,0 +1,4 @@
+pub mod FutureLemmas
+pub mod NamingLemmas
+pub mod PlaceLemmas
+pub mod TaskLemmas

@@ -1,0 +1,4 @@
+pub mod Futures
+pub mod Giving
+pub mod Places
+pub mod Tasks
