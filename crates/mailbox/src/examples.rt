@@ -21,12 +21,14 @@ pub fn oldest_comes_first(
     Ok((first, second, state.take()))
 }
 
-/// A load has a unit of the application, and who created its due exactly where it has one; or a right value.
+/// A load has a unit of the application that needs no future, and who created its due exactly where it has one; or a
+/// right value.
 pub fn loads_are_judged()
     ensures unit_with_due { IsRight (Carried 1 (Some main)) }
     ensures due_of_nobody { IsRight (Carried 1 None) → ⊥ }
     ensures unit_without_due { IsRight (Carried 0 None) }
     ensures bringer_of_no_due { IsRight (Carried 0 (Some main)) → ⊥ }
+    ensures unit_with_needs { IsRight (Carried 4 (Some main)) → ⊥ }
     ensures no_unit { IsRight (Carried 5 (Some main)) → ⊥ }
     ensures value { IsRight (Give third main 3) }
     ensures wrong_value { IsRight (Give third main 4) → ⊥ }

@@ -22,13 +22,13 @@ impl<A: App, J: Naming<A>> Model for Mail<A, J> {
 
     ghost view = { λ m. m.load };
 
-    ghost invariant = { λ m. IfSome J.app (λ app. IsRightLoad (A.is_unit app) (A.due_of app) (A.right_value app) m.load) };
+    ghost invariant = { λ m. IfSome J.app (λ app. IsRightLoad (A.is_unit app) (A.due_of app) (A.needs_of app) (A.right_value app) m.load) };
 }
 
 impl<A: App, J: Naming<A>> Mail<A, J> {
     /// A message with this load, which is right.
     pub fn new(load: Load<A::Unit, A::Value>) -> Mail<A, J>
-        requires { IfSome J.app (λ app. IsRightLoad (A.is_unit app) (A.due_of app) (A.right_value app) load) }
+        requires { IfSome J.app (λ app. IsRightLoad (A.is_unit app) (A.due_of app) (A.needs_of app) (A.right_value app) load) }
         ensures { result ≡ load }
     {
         Mail {
@@ -40,7 +40,7 @@ impl<A: App, J: Naming<A>> Mail<A, J> {
     /// Its load.
     pub fn into_load(self) -> Load<A::Unit, A::Value>
         ensures load { result ≡ self }
-        ensures right { IfSome J.app (λ app. IsRightLoad (A.is_unit app) (A.due_of app) (A.right_value app) result) }
+        ensures right { IfSome J.app (λ app. IsRightLoad (A.is_unit app) (A.due_of app) (A.needs_of app) (A.right_value app) result) }
     {
         self.load
     }

@@ -38,7 +38,7 @@ fn take_right<A: App, J: Naming<A>, R: Wait>(
     pass: &mut Pass<Mail<A, J>>,
 ) -> Option<Load<A::Unit, A::Value>>
     requires named { J.app ≡ Some app.now }
-    ensures { IfSome result (λ l. IsRightLoad (A.is_unit app.now) (A.due_of app.now) (A.right_value app.now) l) }
+    ensures { IfSome result (λ l. IsRightLoad (A.is_unit app.now) (A.due_of app.now) (A.needs_of app.now) (A.right_value app.now) l) }
 {
     let _ = app;
     let mail = inbox.take(rt, pass)?;
@@ -52,8 +52,8 @@ fn carry_named<A: App, J: Naming<A>, R: Wait>(
     load: Load<A::Unit, A::Value>,
 ) -> Result<Option<Load<A::Unit, A::Value>>, OutOfMemory>
     requires named { J.app ≡ Some app.now }
-    requires right { IsRightLoad (A.is_unit app.now) (A.due_of app.now) (A.right_value app.now) load }
-    ensures { IfOk result (λ o. IfSome o (λ l. IsRightLoad (A.is_unit app.now) (A.due_of app.now) (A.right_value app.now) l)) }
+    requires right { IsRightLoad (A.is_unit app.now) (A.due_of app.now) (A.needs_of app.now) (A.right_value app.now) load }
+    ensures { IfOk result (λ o. IfSome o (λ l. IsRightLoad (A.is_unit app.now) (A.due_of app.now) (A.needs_of app.now) (A.right_value app.now) l)) }
 {
     let inbox: Inbox<Mail<A, J>> = Inbox::new(alloc)?;
     let mut sender = inbox.pass(rt);
@@ -71,8 +71,8 @@ fn carry<A: App, R: Wait>(
     app: &A,
     load: Load<A::Unit, A::Value>,
 ) -> Result<Option<Load<A::Unit, A::Value>>, OutOfMemory>
-    requires { IsRightLoad (A.is_unit app.now) (A.due_of app.now) (A.right_value app.now) load }
-    ensures { IfOk result (λ o. IfSome o (λ l. IsRightLoad (A.is_unit app.now) (A.due_of app.now) (A.right_value app.now) l)) }
+    requires { IsRightLoad (A.is_unit app.now) (A.due_of app.now) (A.needs_of app.now) (A.right_value app.now) load }
+    ensures { IfOk result (λ o. IfSome o (λ l. IsRightLoad (A.is_unit app.now) (A.due_of app.now) (A.needs_of app.now) (A.right_value app.now) l)) }
 {
     carry_named::<A, Brand, R>(rt, alloc, app, load)
 }
