@@ -1,7 +1,7 @@
 -- What is known of a run whose lanes were all folded, and of lanes that are made.
 use Rattle.std.proofs.Common.{◌≡◌, ◌⊎◌, ℕ, zero, suc, ◌+◌, ◌*◌, ◌<◌, ◌≤◌, Bool, true, false, List, [], ◌∷◌, ◌++◌, map, reverse, length, refl, sym, ap, subst, ◌∙◌, inl, inr, arith, length-append, append-nil}
 use Rattle.std.specs.Prelude.{All, Contains, if◌then◌else◌}
-use Rattle.std.proofs.lemmas.List.{reverse-reverse, length-map}
+use Rattle.std.proofs.lemmas.List.{reverse-reverse, length-map, map-append}
 use Rattle.std.proofs.lemmas.List.Elements.{All-nil, All-cons, All-contains, Contains-append_left, Contains-append_right, Contains-append_cases}
 use Rattle.app_core.specs.Commands.{IsRankCount}
 use Rattle.app_core.specs.declared.label.Label.{Label}
@@ -16,8 +16,8 @@ use Rattle.event_books.proofs.WrittenPartLemmas.{parts_are_of_a_book}
 use Rattle.world_rule.specs.declared.view.OwnPart.{OwnPart}
 use Rattle.world_rule.specs.Views.{own_part}
 use Rattle.world_rule.proofs.ContainsLemmas.{contains_none, contains_first, contains_later, contains_cases}
-use Rattle.world_words.specs.Lanes.{WordsView, LaneView, Lawful}
-use Rattle.world_words.specs.Closing.{name_of, all_of, own_parts, kept_part, kept_parts, IsFree, AreAllLanes}
+use Rattle.world_words.specs.Lanes.{WordsView, LaneView, RootView, Lawful}
+use Rattle.world_words.specs.Closing.{name_of, all_of, own_parts, kept_part, kept_parts, IsFree, AreAllLanes, new_lane, new_ranks}
 
 pub all_left : {X : Type 0} (P : X → Type 0) (xs ys : List X) → All P (xs ++ ys) → All P xs
 all_left P [] ys h = All-nil P
@@ -38,6 +38,25 @@ append_assoc (x ∷ xs) ys zs = ap (λ l. x ∷ l) (append_assoc xs ys zs)
 pub kept_append : (us vs : List LaneView) → kept_parts (us ++ vs) ≡ kept_parts us ++ kept_parts vs
 kept_append [] vs = refl
 kept_append (u ∷ us) vs = ap (λ ps. kept_part u ++ ps) (kept_append us vs) ∙ append_assoc (kept_part u) (kept_parts us) (kept_parts vs)
+
+-- what is folded so far with what is left, where one chunk more is folded, and where none is left
+pub parts_on : (P Q : List OwnPart) (chunk rest items : List LaneView) (all : List OwnPart) → items ≡ chunk ++ rest → P ++ own_parts items ≡ all → Q ≡ P ++ own_parts chunk → Q ++ own_parts rest ≡ all
+parts_on P Q chunk rest items all steps was now =
+    ap (λ z. z ++ own_parts rest) now ∙ sym (append_assoc P (own_parts chunk) (own_parts rest)) ∙ ap (λ z. P ++ z) (sym (own_append chunk rest)) ∙ ap (λ z. P ++ own_parts z) (sym steps) ∙ was
+
+pub kept_on : (P Q : List PartData) (chunk rest items : List LaneView) (all : List PartData) → items ≡ chunk ++ rest → P ++ kept_parts items ≡ all → Q ≡ P ++ kept_parts chunk → Q ++ kept_parts rest ≡ all
+kept_on P Q chunk rest items all steps was now =
+    ap (λ z. z ++ kept_parts rest) now ∙ sym (append_assoc P (kept_parts chunk) (kept_parts rest)) ∙ ap (λ z. P ++ z) (sym (kept_append chunk rest)) ∙ ap (λ z. P ++ kept_parts z) (sym steps) ∙ was
+
+pub parts_end : (Q : List OwnPart) (items : List LaneView) (all : List OwnPart) → items ≡ [] → Q ++ own_parts items ≡ all → Q ≡ all
+parts_end Q items all none was = sym (append-nil Q) ∙ ap (λ z. Q ++ own_parts z) (sym none) ∙ was
+
+pub kept_end : (Q : List PartData) (items : List LaneView) (all : List PartData) → items ≡ [] → Q ++ kept_parts items ≡ all → Q ≡ all
+kept_end Q items all none was = sym (append-nil Q) ∙ ap (λ z. Q ++ kept_parts z) (sym none) ∙ was
+
+pub nothing_left : {X : Type 0} (l : List X) → length l ≡ 0 → l ≡ []
+nothing_left [] h = refl
+nothing_left (x ∷ xs) h = absurd (omega arith)
 
 own_has : (vs : List LaneView) (v : LaneView) → Contains vs v → Contains (own_parts vs) (own_part v.name v.mine)
 own_has [] v h = contains_none v h
@@ -107,7 +126,7 @@ module _ {A : Type 0} (words : WordsView A) (may : Label → List Outline → Ty
   pub room_for_all : AreAllLanes words hands bins → words.workers ≤ 4 → length (all_of hands) + length (all_of bins) ≤ 21 * words.ranks
   room_for_all are few =
       let a = length-append (all_of hands) (all_of bins) in
-      let b : length (map name_of lanes_together) ≡ length lanes_together = length-map name_of lanes_together in
+      let b : length (map name_of lanes_together) ≡ length lanes_together = length-map lanes_together name_of in
       let c = ap length are.names in
       let d = few_lanes words.ranks words.workers few in omega (arith, a, b, c, d)
 
@@ -178,3 +197,57 @@ kept_empty v es same none = step v.kept ∙ refl
 
 pub kept_off : (v : LaneView) → v.kept ≡ false → kept_parts (v ∷ []) ≡ []
 kept_off v off = ap (λ (b : Bool). (if b then part_with v.name v.mine else []) ++ []) off
+
+-- a row with one lane more, and rows with one more
+pub row_grown : {A : Type 0} (words : WordsView A) (b : Bool) (r n m : ℕ) (made : LaneView) (items now : List LaneView) → m ≡ suc n → items ≡ map (new_lane words) (lanes_from b r 0 n)
+    → made ≡ new_lane words (record { rank = r; bin = b; number = n }) → now ≡ items ++ made ∷ [] → now ≡ map (new_lane words) (lanes_from b r 0 m)
+row_grown words b r n m made items now next were is grown =
+    let last : LaneName = record { rank = r; bin = b; number = 0 + n } in
+    let there : n ≡ 0 + n = omega arith in
+    let one : made ≡ new_lane words last = is ∙ ap (λ (z : ℕ). new_lane words (record { rank = r; bin = b; number = z })) there in
+    grown ∙ (λ i. were i ++ one i ∷ []) ∙ sym (map-append (new_lane words) (lanes_from b r 0 n) (last ∷ []))
+    ∙ ap (λ (ls : List LaneName). map (new_lane words) ls) (sym (row_more b r 0 n)) ∙ ap (λ (z : ℕ). map (new_lane words) (lanes_from b r 0 z)) (sym next)
+
+ranks_more : {A : Type 0} (words : WordsView A) (b : Bool) (each r n : ℕ) → new_ranks words b each r (suc n) ≡ new_ranks words b each r n ++ map (new_lane words) (lanes_from b (r + n) 0 each) ∷ []
+ranks_more words b each r zero = ap (λ (z : ℕ). map (new_lane words) (lanes_from b z 0 each) ∷ []) (omega arith)
+ranks_more words b each r (suc n) =
+    let next : suc r + n ≡ r + suc n = omega arith in
+    ap (λ (rows : List (List LaneView)). map (new_lane words) (lanes_from b r 0 each) ∷ rows)
+    (ranks_more words b each (suc r) n ∙ ap (λ (z : ℕ). new_ranks words b each (suc r) n ++ map (new_lane words) (lanes_from b z 0 each) ∷ []) next)
+
+pub ranks_grown : {A : Type 0} (words : WordsView A) (b : Bool) (each n m : ℕ) (row : List LaneView) (items now : List (List LaneView)) → m ≡ suc n → items ≡ new_ranks words b each 0 n
+    → row ≡ map (new_lane words) (lanes_from b n 0 each) → now ≡ items ++ row ∷ [] → now ≡ new_ranks words b each 0 m
+ranks_grown words b each n m row items now next were is grown =
+    let there : n ≡ 0 + n = omega arith in
+    let one : row ≡ map (new_lane words) (lanes_from b (0 + n) 0 each) = is ∙ ap (λ (z : ℕ). map (new_lane words) (lanes_from b z 0 each)) there in
+    grown ∙ (λ i. were i ++ one i ∷ []) ∙ sym (ranks_more words b each 0 n) ∙ ap (λ (z : ℕ). new_ranks words b each 0 z) (sym next)
+
+-- a root that differs from the first in its lanes alone, after one more change of them
+pub root_kept : (first now next : RootView) (ps : List OwnPart) → now ≡ record first { parts = now.parts } → next ≡ record now { parts = ps } → next ≡ record first { parts = next.parts }
+root_kept first now next ps was is =
+    is ∙ (λ i. record (was i) { parts = ps }) ∙ (λ i. record first { parts = (sym (ap (λ (r : RootView). r.parts) is)) i })
+
+-- new lanes are all lanes
+names_new : {A : Type 0} (words : WordsView A) (ls : List LaneName) → map name_of (map (new_lane words) ls) ≡ ls
+names_new words [] = refl
+names_new words (l ∷ ls) = ap (λ (z : List LaneName). l ∷ z) (names_new words ls)
+
+free_new : {A : Type 0} (words : WordsView A) (ls : List LaneName) → All (IsFree words) (map (new_lane words) ls)
+free_new words [] = All-nil (IsFree words)
+free_new words (l ∷ ls) = All-cons (IsFree words) (new_lane words l) (map (new_lane words) ls) (record { table = refl; owes = refl; progress = refl; kept = refl }) (free_new words ls)
+
+together : {A : Type 0} (words : WordsView A) (b : Bool) (each r n : ℕ) → all_of (new_ranks words b each r n) ≡ map (new_lane words) (lanes_of_ranks b each r n)
+together words b each r zero = refl
+together words b each r (suc n) =
+    ap (λ (z : List LaneView). map (new_lane words) (lanes_from b r 0 each) ++ z) (together words b each (suc r) n) ∙ sym (map-append (new_lane words) (lanes_from b r 0 each) (lanes_of_ranks b each (suc r) n))
+
+pub new_are_all : {A : Type 0} (words : WordsView A) (hands bins : List (List LaneView)) → hands ≡ new_ranks words false (suc words.workers) 0 words.ranks → bins ≡ new_ranks words true 16 0 words.ranks → AreAllLanes words hands bins
+new_are_all words hands bins h b = record {
+  names = ap (λ (z : List LaneView). map name_of z) same ∙ names_new words (lanes_in_order words.ranks words.workers);
+  free = subst (All (IsFree words)) (sym same) (free_new words (lanes_in_order words.ranks words.workers));
+}
+  where
+    same : all_of hands ++ all_of bins ≡ map (new_lane words) (lanes_in_order words.ranks words.workers)
+    same =
+        (λ i. all_of (h i) ++ all_of (b i)) ∙ (λ i. together words false (suc words.workers) 0 words.ranks i ++ together words true 16 0 words.ranks i)
+        ∙ sym (map-append (new_lane words) (lanes_of_ranks false (suc words.workers) 0 words.ranks) (lanes_of_ranks true 16 0 words.ranks))

@@ -38,7 +38,7 @@ impl<A> Track<A> {
     pub fn is_lawful(&self)
         ensures { IsLawful self.now }
     {
-        let _ = self.ranks;
+        let _ = &self.seat;
     }
 }
 

@@ -2,10 +2,10 @@
 ghost use Rattle.std.specs.Prelude.{◌≡◌, ℕ, suc, ◌*◌, ◌<◌, ◌≤◌, true, false, [], map, Contains, IfOk, OnOk};
 ghost use Rattle.app_core.specs.Commands.{IsRankCount};
 ghost use Rattle.event_lists.specs.declared.lane.LaneName.{LaneName as LaneNameData};
-ghost use Rattle.event_books.specs.Books.{lanes_from, lanes_of_ranks};
+ghost use Rattle.event_books.specs.Books.{lanes_from};
 ghost use Rattle.event_laws.specs.Follows.{program_from};
 ghost use Rattle.world_rule.specs.Views.{empty_part};
-ghost use Rattle.world_words.specs.Closing.{new_lane, new_ranks};
+ghost use Rattle.world_words.specs.Closing.{new_lane, new_ranks, AreAllLanes};
 
 use crate::lane::{Lane, Root};
 use crate::words::Words;
@@ -122,6 +122,7 @@ impl<A: Facts> Words<A> {
         requires workers { workers ≤ 4 }
         ensures size { IfOk result (λ r. (r.0.ranks ≡ ranks) × (r.0.workers ≡ workers) × (r.0.trace ≡ trace)) }
         ensures app { IfOk result (λ r. (r.0.app ≡ app.now) × (r.0.program ≡ program_from 1 (A.kinds_of app.now) (A.starts_of app.now))) }
+        ensures all { IfOk result (λ r. AreAllLanes r.0 r.1.hands.items r.1.bins.items) }
         ensures hands { IfOk result (λ r. r.1.hands.items ≡ new_ranks r.0 false (suc workers) 0 ranks) }
         ensures bins { IfOk result (λ r. r.1.bins.items ≡ new_ranks r.0 true 16 0 ranks) }
         ensures root { IfOk result (λ r. (r.1.root.table ≡ r.0.table) × (r.1.root.book ≡ []) × (21 * ranks ≤ r.1.root.room)) }

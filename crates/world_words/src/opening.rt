@@ -1,7 +1,9 @@
 //! How the words begin, and how lanes are given out and taken back.
-ghost use Rattle.std.specs.Prelude.{◌≡◌, ℕ, ◌+◌, ◌*◌, ◌^◌, ◌<◌, ◌≤◌, ◌||◌, ◌↔◌, true, false, Some, None, Err, List, [], ◌∷◌, ◌++◌, map, max, length, IsOk, IfOk, OnOk, OnErr, Contains};
+ghost use Rattle.std.specs.Prelude.{◌≡◌, ◌≢◌, ℕ, ◌+◌, ◌*◌, ◌^◌, ◌<◌, ◌≤◌, ◌||◌, ◌↔◌, true, false, Some, None, Err, List, [], ◌∷◌, ◌++◌, map, max, length, IsOk, IfOk, OnOk, OnErr, Contains};
 ghost use Rattle.app_core.specs.Commands.{IsRankCount};
+ghost use Rattle.event_lists.specs.declared.lane.LaneName.{LaneName as LaneNameData};
 ghost use Rattle.event_lists.specs.Events.{Begins};
+ghost use Rattle.event_lists.specs.Legal.{IsLane};
 ghost use Rattle.event_laws.specs.Follows.{program_from};
 ghost use Rattle.lane_trace.specs.declared.record.ReserveError.TheVariants.{Worn, OutOfMemory as NoMemory};
 ghost use Rattle.lane_trace.specs.Traces.{TraceData};
@@ -43,6 +45,7 @@ impl<A: Facts> Words<A> {
         ensures size { IfOk result (λ r. (r.0.ranks ≡ ranks) × (r.0.workers ≡ workers) × (r.0.trace ≡ trace)) }
         ensures app { IfOk result (λ r. (r.0.app ≡ app.now) × (r.0.program ≡ program_from 1 (A.kinds_of app.now) (A.starts_of app.now))) }
         ensures lanes { IfOk result (λ r. (r.1.table ≡ r.0.table) × (r.1.parts ≡ map empty_part (all_lanes ranks workers))) }
+        ensures has { IfOk result (λ r. (l : LaneNameData) → IsLane ranks workers l → Contains r.1.parts (empty_part l)) }
         ensures new { IfOk result (λ r. (r.1.seen ≡ []) × (r.1.book ≡ []) × (21 * ranks ≤ r.1.room) × (r.1.set_stop ≡ false) × (r.1.saw_stop ≡ false)) }
     {
         let zeros = Vec::from_elem(alloc, 0u64, 16 * ranks as usize + 32)?;
@@ -87,6 +90,7 @@ impl<A: Facts> Words<A> {
         requires new { root.old.seen ≡ [] }
         ensures lane { result ≡ record { table = self.now.table; name = name; mine = []; seen = []; owes = None; progress = None; set_stop = false; stop_looks = 0; saw_stop = false; ran_looks = no_looks; submitted_looks = no_looks; spare = 0; kept = self.now.trace } }
         ensures root { root.new ≡ record root.old { parts = without name root.old.parts } }
+        ensures others { (l : LaneNameData) → l ≢ name → Contains root.old.parts (empty_part l) → Contains root.new.parts (empty_part l) }
     {
         let _ = &self.table;
         let seat = self.split_lane::<Brand>(&mut root.seat, name);

@@ -1,4 +1,4 @@
-use Rattle.std.proofs.Common.{◌≡◌, ℕ, ◌+◌, ◌-◌, ◌*◌, ◌<◌, false, sym, subst}
+use Rattle.std.proofs.Common.{◌≡◌, ℕ, ◌+◌, ◌-◌, ◌*◌, ◌<◌, false, sym, ap, subst, ◌∙◌}
 use Rattle.std.specs.Prelude.{None}
 use Rattle.atomic_table.specs.Table.{Allows}
 use Rattle.event_lists.specs.declared.event.Event.{Event}
@@ -6,6 +6,7 @@ use Rattle.event_lists.specs.OwnEvents.{IsNextReading, reading_event}
 use Rattle.world_rule.specs.Shows.{ShowsOneRun}
 use Rattle.world_rule.specs.Steps.{Appends}
 use Rattle.world_rule.proofs.EventKindLemmas.{read_numbered, reads_one}
+use Rattle.lane_trace.specs.Records.{recorded}
 use Rattle.world_words.specs.Lanes.{LaneView, Grew}
 use Rattle.world_words.proofs.LaneSeatLemmas.{lane_view, lane_room, grew}
 use Rattle.world_words.proofs.words.Words.read.Goals as goal
@@ -33,4 +34,5 @@ returns g c =
     let may = g.A.Facts.may_do a.self.now.app in
     let s = c.load_event-value.ensures in
     subst (λ (e : Event). Grew a.self.now may e None a.lane.now (lane_view c.load_event-value.new.seat.table_id i.name c.read.new.self c.load_event-value.new.seat.me)) (read_numbered a.kind c.load_event-value.result 0 a.fence a.pass)
-    (grew a.self.now may i.name (reading_event a.kind 0 a.fence a.pass) (None) i.seat.me c.load_event-value.result c.load_event-value.new.seat.me i.seat.table_id c.load_event-value.new.seat.table_id i.own c.read.new.self a.lane.now c.lane.view_is c.requires.room s.0 s.1 c.read.ensures)
+    (grew a.self.now may i.name (reading_event a.kind 0 a.fence a.pass) (None) i.seat.me c.load_event-value.result c.load_event-value.new.seat.me i.seat.table_id c.load_event-value.new.seat.table_id i.own c.read.new.self a.lane.now c.lane.view_is c.requires.room s.0 s.1
+    (c.read.ensures ∙ ap (λ (e : Event). recorded e i.own) (sym (read_numbered a.kind c.load_event-value.result 0 a.fence a.pass))))
