@@ -14,10 +14,10 @@ use Rattle.tree_model.specs.Totals.{Distribution, command_total, nothing, over, 
 use Rattle.tree_model.specs.Trees.{Tree}
 use Rattle.tree_model.specs.Versions.{Version, Versions, read, read_two, written}
 use Rattle.tree_totals.specs.Counts.{HasDifferences, HasLeafSums}
-use Rattle.plain_tree.specs.Numbers.{KeepsDifferences, KeepsLeaves}
-use Rattle.plain_tree.specs.StoredTrees.{HasLeaves, IsReconstructed, KeepsForm, Matches}
-use Rattle.plain_tree.specs.declared.stored.StoredTree.{StoredTree}
-use Rattle.plain_tree.specs.declared.stored.StoredTree.TheVariants.{Reconstructed as KeptLeaves, Compressed as KeptDifferences}
+use Rattle.tree_operations.specs.Numbers.{KeepsDifferences, KeepsLeaves}
+use Rattle.tree_operations.specs.StoredTrees.{HasLeaves, IsReconstructed, KeepsForm, Matches}
+use Rattle.tree_operations.specs.declared.stored.StoredTree.{StoredTree}
+use Rattle.tree_operations.specs.declared.stored.StoredTree.TheVariants.{Reconstructed as KeptLeaves, Compressed as KeptDifferences}
 
 -- a map that keeps a tree has what is counted
 pub leaf_sums : (t : Tree) (m : BTreeMap Key ℤ) → KeepsLeaves t m → HasLeafSums t m

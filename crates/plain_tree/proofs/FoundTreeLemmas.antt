@@ -3,9 +3,9 @@ use Rattle.std.proofs.Common.{◌≡◌, ℕ, Option, Some, None, refl, ℤ}
 use Rattle.std.specs.BTreeMap.{BTreeMap}
 use Rattle.tree_key.specs.Keys.{Key}
 use Rattle.tree_model.specs.Trees.{Tree}
-use Rattle.plain_tree.specs.InnerProducts.{IsCompressed}
-use Rattle.plain_tree.specs.StoredTrees.{IsReconstructed, HasLeaves, HasDifferences, HaveDifferences}
-use Rattle.plain_tree.specs.declared.stored.Compressed.{Compressed as CompressedTree}
+use Rattle.tree_operations.specs.InnerProducts.{IsCompressed}
+use Rattle.tree_operations.specs.StoredTrees.{IsReconstructed, HasLeaves, HasDifferences, HaveDifferences}
+use Rattle.tree_operations.specs.declared.stored.Compressed.{Compressed as CompressedTree}
 
 -- the tree that is read, and is kept by its leaves
 pub record IsReadFrom (depth : ℕ) (leaves : BTreeMap Key ℤ) (read : Option Tree) : Type 0 where

@@ -13,10 +13,10 @@ use Rattle.tree_model.specs.Rows.{leaf_sums, with_sum}
 use Rattle.tree_model.specs.Texts.{tree_lines, leaves}
 use Rattle.tree_model.specs.Trees.{Tree, box_sum, difference}
 use Rattle.tree_model.proofs.StoredTreeLemmas.{leaves_in_order, differences_in_order}
-use Rattle.plain_tree.specs.StoredTrees.{KeepsForm}
+use Rattle.tree_operations.specs.StoredTrees.{KeepsForm}
 use Rattle.plain_tree.specs.Lines.{number_line, sums_text, differences_text}
-use Rattle.plain_tree.specs.declared.stored.Compressed.{Compressed as CompressedTree}
-use Rattle.plain_tree.specs.declared.stored.StoredTree.TheVariants.{Reconstructed as KeptLeaves, Compressed as KeptDifferences}
+use Rattle.tree_operations.specs.declared.stored.Compressed.{Compressed as CompressedTree}
+use Rattle.tree_operations.specs.declared.stored.StoredTree.TheVariants.{Reconstructed as KeptLeaves, Compressed as KeptDifferences}
 
 -- the lines of a tree are those of its leaves with their sums, or of its keys that have children with their differences
 tree_lines_sums : (name : List ℕ) (t : Tree) → sums_text name (leaf_sums t) ≡ tree_lines name t

@@ -1,5 +1,5 @@
 -- A job's commands one after another: what the names stand for, the lines, and the first overflow.
-use Rattle.std.proofs.Common.{◌≡◌, ℕ, suc, ◌+◌, ◌<◌, List, [], ◌∷◌, ◌++◌, length, map, take, drop, get_or, true, false, cond, Some, refl, sym, ◌∙◌, ap, subst, arith, append_assoc, append-nil, add-one}
+use Rattle.std.proofs.Common.{◌≡◌, ℕ, suc, ◌+◌, ◌<◌, List, [], ◌∷◌, ◌++◌, length, map, take, drop, get_or, true, false, cond, Option, Some, refl, sym, ◌∙◌, ap, subst, arith, append_assoc, append-nil, add-one}
 use Rattle.std.specs.List.{fold}
 use Rattle.std.proofs.lemmas.List.{take_more, get_or-map, length-map, length-take}
 use Rattle.std.proofs.lemmas.List.Sums.{fold_push}
@@ -10,8 +10,8 @@ use Rattle.tree_model.specs.Versions.{Versions, no_versions, after, versions_beh
 use Rattle.job_data.specs.Checks.{is_within_limits, are_accepted, max_commands}
 use Rattle.job_data.proofs.CheckLemmas.{accepted_at, are_accepted_at, follows_accepted}
 use Rattle.job_data.proofs.HistoryLemmas.{follows_length}
-use Rattle.plain_tree.specs.declared.command_error.CommandError.{CommandError}
-use Rattle.plain_tree.specs.declared.command_error.CommandError.TheVariants.{Overflow, OutOfMemory}
+use Rattle.tree_operations.specs.declared.command_error.CommandError.{CommandError}
+use Rattle.tree_operations.specs.declared.command_error.CommandError.TheVariants.{Overflow, OutOfMemory}
 use Rattle.plain_tree.specs.declared.serial_error.SerialError.{SerialError}
 use Rattle.plain_tree.specs.declared.serial_error.SerialError.TheVariants.{Overflow as Overflowed, OutOfMemory as NoMemory}
 
@@ -80,8 +80,8 @@ few_before depth cs i c all is =
     let below = is.below in
     omega (arith, few, length-take i cs)
 
--- a job that is stopped with an overflow is stopped by one, at the command of that number
-pub stopped_by :
+-- a job that is stopped with an overflow is stopped by one, and at the first command that overflows
+stopped_by :
     (error : CommandError) (result : SerialError) (number command : ℕ) (text before : List ℕ) →
     (error ≡ Overflow → result ≡ Overflowed number text) →
     (error ≡ OutOfMemory → result ≡ NoMemory) →
@@ -89,3 +89,16 @@ pub stopped_by :
     (error ≡ Overflow) × (number ≡ command)
 stopped_by Overflow result number command text before over memory is = let same : Overflowed number text ≡ Overflowed command before = sym (over refl) ∙ is in (refl, cc)
 stopped_by OutOfMemory result number command text before over memory is = let same : NoMemory ≡ Overflowed command before = sym (memory refl) ∙ is in absurd (cc)
+
+pub stopped_at :
+    (depth : ℕ) (cs : List Command) (i : ℕ) (c : Command) (error : CommandError) (result : SerialError) (command : ℕ) (text before : List ℕ) (first : Option ℕ) →
+    IsAt cs i c →
+    (error ≡ Overflow → result ≡ Overflowed (i + 1) text) →
+    (error ≡ OutOfMemory → result ≡ NoMemory) →
+    result ≡ Overflowed command before →
+    (error ≡ Overflow → command_overflows depth (versions_behind depth (take i cs)) c ≡ true) →
+    overflow_from depth (versions_behind depth (take i cs)) (i + 1) (drop i cs) ≡ first →
+    first ≡ Some command
+stopped_at depth cs i c error result command text before first is over memory same overflows from =
+    let stop = stopped_by error result (i + 1) command text before over memory same in
+    sym from ∙ overflow_here depth cs i c is (overflows stop.0) ∙ ap Some stop.1

@@ -12,10 +12,10 @@ use Rattle.tree_model.specs.Operations.{overflows}
 use Rattle.tree_model.specs.Trees.{Tree}
 use Rattle.tree_model.specs.Versions.{Version, Versions, written, newer, after, command_overflows}
 use Rattle.tree_model.proofs.StoredTreeLemmas.{values_dont_overflow}
-use Rattle.plain_tree.specs.StoredTrees.{KeepsForm, Matches}
+use Rattle.tree_operations.specs.StoredTrees.{KeepsForm, Matches}
 use Rattle.plain_tree.specs.Trees.{kept_at, HasVersions}
-use Rattle.plain_tree.specs.declared.stored.StoredTree.{StoredTree}
-use Rattle.plain_tree.specs.declared.stored.StoredTree.TheVariants.{Reconstructed as KeptLeaves, Compressed as KeptDifferences}
+use Rattle.tree_operations.specs.declared.stored.StoredTree.{StoredTree}
+use Rattle.tree_operations.specs.declared.stored.StoredTree.TheVariants.{Reconstructed as KeptLeaves, Compressed as KeptDifferences}
 
 -- which name a command writes
 writes_name : (c : Command) (name other : List ℕ) → written_name c ≡ Some name → writes other c ≡ bytes_eq other name

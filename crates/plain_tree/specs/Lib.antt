@@ -1,13 +1,3 @@
-pub mod Numbers
-pub mod Filling
-pub mod LeafValues
-pub mod Adding
-pub mod InnerProducts
-pub mod Projecting
 pub mod Lines
-pub mod StoredTrees
 pub mod Trees
-pub mod WholeSums
-pub mod Multiplied
-pub mod Coarsening
 pub mod Receipts

@@ -5,8 +5,8 @@ use Rattle.std.specs.Cmp.Lexicographic.{slice_cmp}
 use Rattle.std.specs.Ordering.{nat_cmp}
 use Rattle.std.specs.BTreeMap.{BTreeMap, get_by}
 use Rattle.tree_model.specs.Versions.{Versions}
-use Rattle.plain_tree.specs.StoredTrees.{Matches}
-use Rattle.plain_tree.specs.declared.stored.StoredTree.{StoredTree}
+use Rattle.tree_operations.specs.StoredTrees.{Matches}
+use Rattle.tree_operations.specs.declared.stored.StoredTree.{StoredTree}
 
 -- the tree that a map has for a name
 abbrev pub kept_at : BTreeMap (Bor (List ℕ)) StoredTree → List ℕ → Option StoredTree

@@ -6,12 +6,12 @@ ghost use Rattle.tree_model.specs.Totals.{command_total, nothing, over, visits_t
 ghost use Rattle.tree_model.specs.Versions.{Version, Versions, written};
 ghost use Rattle.job_data.specs.Data.{data_of};
 ghost use Rattle.tree_totals.specs.Counts.{Counts, distribution_of, total_of};
-ghost use Rattle.plain_tree.specs.StoredTrees.{KeepsForm, Matches};
+ghost use Rattle.tree_operations.specs.StoredTrees.{KeepsForm, Matches};
 ghost use Rattle.plain_tree.specs.Trees.{HasVersions};
 
-use crate::stored::StoredTree;
 use crate::trees::{Trees, both_compressed, leaves_of, tree_of};
 use job_data::Command;
+use tree_operations::StoredTree;
 use tree_totals::{Distribution, ShapeCount, Total};
 
 // What is counted of a tree's keys.
@@ -69,12 +69,7 @@ fn coarsening_total(
 }
 
 // What `inner` comes to.
-fn inner_total(
-    distribution: Distribution,
-    trees: &Trees<'_>,
-    left: &[u8],
-    right: &[u8],
-) -> Total
+fn inner_total(distribution: Distribution, trees: &Trees<'_>, left: &[u8], right: &[u8]) -> Total
     requires { (depth : ℕ) × (versions : Versions) × HasVersions depth versions trees.now }
     ensures total { (depth : ℕ) (versions : Versions) → HasVersions depth versions trees.now →
         total_of result ≡ command_total (distribution_of distribution) depth versions (Inner left.now right.now) }

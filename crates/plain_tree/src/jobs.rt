@@ -12,10 +12,9 @@ ghost use Rattle.job_data.specs.Checks.{is_within_limits, max_commands};
 ghost use Rattle.job_data.specs.Data.{data_of};
 ghost use Rattle.tree_totals.specs.Counts.{by_map, distribution_of};
 ghost use Rattle.plain_tree.specs.Receipts.{HasCounted};
-ghost use Rattle.plain_tree.specs.StoredTrees.{Matches};
+ghost use Rattle.tree_operations.specs.StoredTrees.{Matches};
 ghost use Rattle.plain_tree.specs.Trees.{HasVersions};
 
-use crate::command_error::CommandError;
 use crate::counting::command_total;
 use crate::receipts::Receipts;
 use crate::serial_error::SerialError;
@@ -26,6 +25,7 @@ use owner_map::OwnerMap;
 use std::alloc::Global;
 use std::collections::BTreeMap;
 use tree_key::{OutOfMemory, Text};
+use tree_operations::CommandError;
 use tree_totals::Distribution;
 
 // Gives the name that a command writes the tree that it wrote, if it wrote one.
@@ -90,7 +90,7 @@ fn run_with_receipt<'a>(
     ensures text { OnOk result ((before : List CommandData) →
         HasVersions depth (versions_behind depth before) trees.old → HasCounted depth before receipts.old →
         text.new ≡ text.old ++ command_lines (versions_behind depth before) (data_of command.now) ++
-            receipt (distribution_of receipts.old.distribution) depth before (data_of command.now)) }
+        receipt (distribution_of receipts.old.distribution) depth before (data_of command.now)) }
     ensures counted { OnOk result ((before : List CommandData) →
         HasVersions depth (versions_behind depth before) trees.old → HasCounted depth before receipts.old →
         HasCounted depth (before ++ data_of command.now ∷ []) receipts.new) }
@@ -145,11 +145,7 @@ fn without_receipts(alloc: Global, job: &Job) -> Result<Text, SerialError>
 }
 
 // The text of a job with receipts.
-fn with_receipts(
-    alloc: Global,
-    job: &Job,
-    distribution: Distribution,
-) -> Result<Text, SerialError>
+fn with_receipts(alloc: Global, job: &Job, distribution: Distribution) -> Result<Text, SerialError>
     ensures within { IfOk result (λ text. first_overflow job.now ≡ None) }
     ensures text { IfOk result (λ text. text ≡ text_of (distribution_of distribution) true job.now) }
     ensures overflow { (command : ℕ) (before : List ℕ) →

@@ -6,13 +6,12 @@ ghost use Rattle.std.specs.List.{flat_map};
 ghost use Rattle.tree_key.specs.Keys.{key_cmp};
 ghost use Rattle.tree_model.specs.OperationTexts.{printed_lines};
 ghost use Rattle.tree_model.specs.Versions.{Version};
-ghost use Rattle.plain_tree.specs.StoredTrees.{KeepsForm};
+ghost use Rattle.tree_operations.specs.StoredTrees.{KeepsForm};
 ghost use Rattle.plain_tree.specs.Lines.{number_line, sums_text, differences_text};
 
-use crate::numbers::Numbers;
-use crate::stored::{Compressed, StoredTree};
 use itoa::Buffer;
 use tree_key::{Key, OutOfMemory, Text};
+use tree_operations::{Compressed, Numbers, StoredTree};
 
 // Adds a number.
 fn add_unsigned(text: &mut Text, number: u32) -> Result<(), OutOfMemory>

@@ -18,12 +18,7 @@ fn name(bytes: &[u8]) -> Result<Name, Fail> {
     }
 }
 
-fn project_to(
-    to: &[u8],
-    function: Func,
-    level: u8,
-    tolerance: u32,
-) -> Result<Command, Fail> {
+fn project_to(to: &[u8], function: Func, level: u8, tolerance: u32) -> Result<Command, Fail> {
     let name = name(to)?;
     Ok(Command::Project {
         name,

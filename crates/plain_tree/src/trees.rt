@@ -4,13 +4,12 @@ ghost use Rattle.std.specs.Option.{option_map};
 ghost use Rattle.std.specs.Str.{bytes_eq};
 ghost use Rattle.tree_model.specs.Nodes.Form.{Reconstructed, Compressed as CompressedForm};
 ghost use Rattle.tree_model.specs.Versions.{Versions, read, read_two};
-ghost use Rattle.plain_tree.specs.StoredTrees.{HasLeaves, HasDifferences, HaveLeaves, HaveDifferences};
+ghost use Rattle.tree_operations.specs.StoredTrees.{HasLeaves, HasDifferences, HaveLeaves, HaveDifferences};
 ghost use Rattle.plain_tree.specs.Trees.{kept_at, HasVersions};
 
-use crate::numbers::Numbers;
-use crate::stored::{Compressed, StoredTree};
 use std::collections::BTreeMap;
 use tree_key::OutOfMemory;
+use tree_operations::{Compressed, Numbers, StoredTree};
 
 /// For each name the tree that it stands for.
 pub type Trees<'a> = BTreeMap<&'a [u8], StoredTree>;

@@ -10,20 +10,19 @@ ghost use Rattle.tree_model.specs.Signatures.{written_name};
 ghost use Rattle.tree_model.specs.Versions.{Versions, written, command_overflows};
 ghost use Rattle.job_data.specs.Checks.{is_within_limits};
 ghost use Rattle.job_data.specs.Data.{data_of};
-ghost use Rattle.plain_tree.specs.StoredTrees.{Matches};
+ghost use Rattle.tree_operations.specs.StoredTrees.{Matches};
 ghost use Rattle.plain_tree.specs.Trees.{HasVersions};
 
-use crate::command_error::CommandError;
 use crate::lines::{add_inner, add_size, add_tree};
-use crate::operations::{
-    add, coarsen, compress, inner, multiply, project, reconstruct, refine, size,
-};
-use crate::stored::StoredTree;
 use crate::trees::{Trees, both_compressed, both_leaves, compressed_of, leaves_of, tree_of};
 use job_data::Command;
 use job_words::Name;
 use std::alloc::Global;
 use tree_key::{OutOfMemory, Text};
+use tree_operations::{
+    CommandError, StoredTree, add, coarsen, compress, inner, multiply, project, reconstruct,
+    refine, size,
+};
 
 // What `refine` writes: the tree of the name with all keys down to a level.
 fn refined(

@@ -13,15 +13,19 @@ returns-in-Project-clause-total c = λ depth versions has matches.
     let command = c.args.command.now in
     let over : is_over_written (data_of command) ≡ true =
     elim c.in-Project.is [
-      inl p ↦ ap (λ k. is_over_written (data_of k)) p.4
-    | inr others ↦ elim others [
-      inl p ↦ ap (λ k. is_over_written (data_of k)) p.2
-    | inr others ↦ elim others [
-      inl p ↦ ap (λ k. is_over_written (data_of k)) p.1
-    | inr others ↦ elim others [
-      inl p ↦ ap (λ k. is_over_written (data_of k)) p.1
-    | inr others ↦ elim others [
-      inl p ↦ ap (λ k. is_over_written (data_of k)) p.5
-    | inr p ↦ ap (λ k. is_over_written (data_of k)) p.3
-    ] ] ] ] ] in
+      | inl p ↦ ap (λ k. is_over_written (data_of k)) p.4
+      | inr others ↦ elim others [
+        | inl p ↦ ap (λ k. is_over_written (data_of k)) p.2
+        | inr others ↦ elim others [
+          | inl p ↦ ap (λ k. is_over_written (data_of k)) p.1
+          | inr others ↦ elim others [
+            | inl p ↦ ap (λ k. is_over_written (data_of k)) p.1
+            | inr others ↦ elim others [
+              | inl p ↦ ap (λ k. is_over_written (data_of k)) p.5
+              | inr p ↦ ap (λ k. is_over_written (data_of k)) p.3
+            ]
+          ]
+        ]
+      ]
+    ] in
     c.visits_total.ensures.total depth (written depth versions (data_of command)) matches ∙ written_total (distribution_of c.args.distribution) depth versions (data_of command) over

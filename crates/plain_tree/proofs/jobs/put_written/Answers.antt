@@ -3,8 +3,8 @@ use Rattle.std.specs.Prelude.{Some}
 use Rattle.std.specs.Option.{option_map}
 use Rattle.tree_model.specs.Versions.{written}
 use Rattle.tree_model.specs.Signatures.{written_name}
-use Rattle.plain_tree.specs.StoredTrees.{Matches}
-use Rattle.plain_tree.proofs.ResultLemmas.{OnOk_map}
+use Rattle.tree_operations.specs.StoredTrees.{Matches}
+use Rattle.tree_operations.proofs.ResultLemmas.{OnOk_map}
 use Rattle.plain_tree.proofs.VersionLemmas.{after_put}
 use Rattle.plain_tree.proofs.jobs.put_written.Goals as goal
 

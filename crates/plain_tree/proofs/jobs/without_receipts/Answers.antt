@@ -1,10 +1,10 @@
-use Rattle.std.proofs.Common.{◌≡◌, ◌+◌, ◌++◌, map, take, Some, Err, sym, ◌∙◌, ap, subst, arith}
+use Rattle.std.proofs.Common.{◌≡◌, ◌+◌, ◌++◌, map, take, Err, sym, ◌∙◌, ap, subst}
 use Rattle.tree_model.specs.Jobs.{command_lines}
 use Rattle.tree_model.specs.Versions.{versions_behind}
 use Rattle.job_data.specs.Data.{data_of}
 use Rattle.plain_tree.specs.Trees.{HasVersions}
 use Rattle.plain_tree.specs.declared.serial_error.SerialError.TheVariants.{Overflow}
-use Rattle.plain_tree.proofs.SerialLemmas.{mapped_at, versions_next, lines_next, overflow_later, overflow_here, limits_at, few_before, stopped_by}
+use Rattle.plain_tree.proofs.SerialLemmas.{mapped_at, versions_next, lines_next, overflow_later, limits_at, few_before, stopped_at}
 use Rattle.plain_tree.proofs.jobs.without_receipts.Goals as goal
 
 pub run_command-requires-clause-limits : goal.run_command-requires-clause-limits
@@ -27,14 +27,12 @@ pub returns-in-Err-clause-overflow : goal.returns-in-Err-clause-overflow
 returns-in-Err-clause-overflow c = λ command before same.
     let depth = c.depth-depth.result in
     let xs = c.commands-command-items.result.now in
-    let cs = map data_of xs in
     let i = c.loop-index.index in
     let k = c.command-item.result in
     let is = mapped_at data_of xs i k c.loop-index-test.true c.command-item.is in
     let told : c.stopped.result ≡ Overflow command before = cc in
-    let stop = stopped_by c.in-Err.error c.stopped.result (i + 1) command _ before c.stopped.ensures.overflow c.stopped.ensures.out_of_memory told in
-    let over = c.in-Err.ensures.over (ap Err stop.0) (versions_behind depth (take i cs)) c.loop-index.invariant.trees in
-    sym c.loop-index.invariant.overflow ∙ overflow_here depth cs i (data_of k) is over ∙ ap Some stop.1
+    stopped_at depth (map data_of xs) i (data_of k) c.in-Err.error c.stopped.result command _ before _ is c.stopped.ensures.overflow c.stopped.ensures.out_of_memory told
+    (λ over. c.in-Err.ensures.over (ap Err over) (versions_behind depth (take i (map data_of xs))) c.loop-index.invariant.trees) c.loop-index.invariant.overflow
 
 pub loop-index-preserved : goal.loop-index-preserved
 loop-index-preserved c =

@@ -1,8 +1,8 @@
 use Rattle.std.proofs.Common.{◌≡◌, ℕ, List, ◌++◌, ◌∙◌, ap, append_assoc, rules}
 use Rattle.std.specs.Prelude.{codes}
 use Rattle.std.specs.Fmt.{signed_decimal}
-use Rattle.plain_tree.proofs.StoredNumberLemmas.{passed}
-use Rattle.plain_tree.proofs.ResultLemmas.{OnOk_map}
+use Rattle.tree_operations.proofs.StoredNumberLemmas.{passed}
+use Rattle.tree_operations.proofs.ResultLemmas.{OnOk_map}
 use Rattle.plain_tree.proofs.lines.add_heading.Goals as goal
 
 pieces : (text a b c d : List ℕ) → (((text ++ a) ++ b) ++ c) ++ d ≡ text ++ (((a ++ b) ++ c) ++ d)

@@ -1,6 +1,6 @@
 use Rattle.std.proofs.Common.{◌++◌, ◌∙◌, ap}
 use Rattle.plain_tree.proofs.PrintLemmas.{printed_leaves, printed_differences}
-use Rattle.plain_tree.proofs.ResultLemmas.{OnOk_map, OnOk_both}
+use Rattle.tree_operations.proofs.ResultLemmas.{OnOk_map, OnOk_both}
 use Rattle.plain_tree.proofs.lines.add_tree.Goals as goal
 
 pub returns-in-Reconstructed : goal.returns-in-Reconstructed

@@ -2,8 +2,8 @@ use Rattle.std.proofs.Common.{rules}
 use Rattle.tree_model.specs.Nodes.Form.{Compressed}
 use Rattle.tree_model.specs.Versions.{read_two}
 use Rattle.plain_tree.proofs.FoundTreeLemmas.{both_differences_read}
-use Rattle.plain_tree.proofs.InnerProductLemmas.{passed_wide}
-use Rattle.plain_tree.proofs.ResultLemmas.{OnOk_map}
+use Rattle.tree_operations.proofs.InnerProductLemmas.{passed_wide}
+use Rattle.tree_operations.proofs.ResultLemmas.{OnOk_map}
 use Rattle.plain_tree.proofs.writing.add_inner_lines.Goals as goal
 
 pub returns-in-Some : goal.returns-in-Some

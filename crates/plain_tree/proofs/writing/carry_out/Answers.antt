@@ -1,8 +1,8 @@
 use Rattle.std.proofs.Common.{rules}
 use Rattle.job_words.specs.NameBytes.{bytes_of}
-use Rattle.plain_tree.proofs.StoredNumberLemmas.{passed}
-use Rattle.plain_tree.proofs.ResultLemmas.{handed_on_error}
-use Rattle.plain_tree.specs.declared.command_error.CommandError.TheVariants.{Overflow}
+use Rattle.tree_operations.proofs.StoredNumberLemmas.{passed}
+use Rattle.tree_operations.proofs.ResultLemmas.{handed_on_error}
+use Rattle.tree_operations.specs.declared.command_error.CommandError.TheVariants.{Overflow}
 use Rattle.plain_tree.proofs.writing.carry_out.Goals as goal
 
 pub returns-in_ok-tree-in-Add-clause-kept : goal.returns-in_ok-tree-in-Add-clause-kept

@@ -1,5 +1,0 @@
-use Rattle.std.proofs.Common.{◌-◌}
-use Rattle.plain_tree.proofs.coarsening.+coarsen_below.Given as goal
-
-abbrev pub decreases-coarsen_below : goal.decreases-coarsen_below
-decreases-coarsen_below l = 16 - l.key.level

@@ -1,5 +1,0 @@
-use Rattle.std.proofs.Common.{◌-◌}
-use Rattle.plain_tree.proofs.reconstructing.+reconstruct_below.Given as goal
-
-abbrev pub decreases-reconstruct_below : goal.decreases-reconstruct_below
-decreases-reconstruct_below l = 16 - l.key.level

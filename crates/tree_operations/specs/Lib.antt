@@ -1,0 +1,10 @@
+pub mod Numbers
+pub mod Filling
+pub mod LeafValues
+pub mod Adding
+pub mod InnerProducts
+pub mod Projecting
+pub mod StoredTrees
+pub mod WholeSums
+pub mod Multiplied
+pub mod Coarsening
