@@ -14,7 +14,8 @@ use Rattle.tree_totals.specs.Counts.{distribution_of, total_of}
 use Rattle.tree_totals.specs.declared.total.Total.{Total as TotalData}
 use Rattle.plain_tree.specs.Receipts.{HasCounted}
 use Rattle.plain_tree.specs.declared.receipts.Receipts.{Receipts}
-use Rattle.plain_tree.proofs.SerialLemmas.{IsAt, few_before, take_next}
+use Rattle.job_data.proofs.AcceptedLemmas.{IsAt, few_before}
+use Rattle.plain_tree.proofs.SerialLemmas.{take_next}
 
 same_total : (m n t u : ℕ) → m ≡ n → t ≡ u → ◌≡◌ {A = Total} (record { messages = m; tasks = t }) (record { messages = n; tasks = u })
 same_total m n t u messages tasks = ap₂ (λ x y. record { messages = x; tasks = y }) messages tasks

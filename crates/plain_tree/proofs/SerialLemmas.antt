@@ -1,27 +1,19 @@
 -- A job's commands one after another: what the names stand for, the lines, and the first overflow.
 use Rattle.std.proofs.Common.{◌≡◌, ℕ, suc, ◌+◌, ◌<◌, List, [], ◌∷◌, ◌++◌, length, map, take, drop, get_or, true, false, cond, Option, Some, refl, sym, ◌∙◌, ap, subst, arith, append_assoc, append-nil, add-one}
 use Rattle.std.specs.List.{fold}
-use Rattle.std.proofs.lemmas.List.{take_more, get_or-map, length-map, length-take}
+use Rattle.std.proofs.lemmas.List.{take_more}
 use Rattle.std.proofs.lemmas.List.Sums.{fold_push}
 use Rattle.std.proofs.Math.Seq.{drop-cons}
 use Rattle.tree_model.specs.Commands.{Command}
 use Rattle.tree_model.specs.Jobs.{command_lines, lines_from, overflow_from}
 use Rattle.tree_model.specs.Versions.{Versions, no_versions, after, versions_behind, command_overflows}
-use Rattle.job_data.specs.Checks.{is_within_limits, are_accepted, max_commands}
-use Rattle.job_data.proofs.CheckLemmas.{accepted_at, are_accepted_at, follows_accepted}
-use Rattle.job_data.proofs.HistoryLemmas.{follows_length}
+use Rattle.job_data.proofs.AcceptedLemmas.{IsAt}
 use Rattle.tree_operations.specs.declared.command_error.CommandError.{CommandError}
 use Rattle.tree_operations.specs.declared.command_error.CommandError.TheVariants.{Overflow, OutOfMemory}
 use Rattle.plain_tree.specs.declared.serial_error.SerialError.{SerialError}
 use Rattle.plain_tree.specs.declared.serial_error.SerialError.TheVariants.{Overflow as Overflowed, OutOfMemory as NoMemory}
 
--- the command at a place
-pub record IsAt (cs : List Command) (i : ℕ) (c : Command) : Type 0 where
-  pub below : i < length cs
-  pub at : get_or cs i c ≡ c
-
-pub mapped_at : {A : Type 0} (f : A → Command) (xs : List A) (i : ℕ) (x : A) → i < length xs → x ≡ get_or xs i x → IsAt (map f xs) i (f x)
-mapped_at f xs i x below is = record { below = rw (length-map xs f) below; at = get_or-map f xs i x (f x) below ∙ ap f (sym is) }
+-- one more command
 
 pub take_next : (cs : List Command) (i : ℕ) (c : Command) → IsAt cs i c → take (i + 1) cs ≡ take i cs ++ c ∷ []
 take_next cs i c is = take_more cs i c is.below ∙ ap (λ x. take i cs ++ x ∷ []) is.at
@@ -66,19 +58,6 @@ overflow_here depth cs i c is over =
     let before = versions_behind depth (take i cs) in
     ap (overflow_from depth before (i + 1)) (drop_next cs i c is)
     ∙ ap (λ b. cond b (Some (i + 1)) (overflow_from depth (after depth before c) (i + 1 + 1) (drop (i + 1) cs))) over
-
--- a command of a job is within its limits, and there are at most 512
-pub limits_at : (depth : ℕ) (cs : List Command) (i : ℕ) (c : Command) → are_accepted depth [] cs ≡ true → IsAt cs i c → is_within_limits depth c ≡ true
-limits_at depth cs i c all is = subst (λ d. is_within_limits depth d ≡ true) is.at (accepted_at depth [] cs i c all is.below)
-
-pub few_before : (depth : ℕ) (cs : List Command) (i : ℕ) (c : Command) → are_accepted depth [] cs ≡ true → IsAt cs i c → i < max_commands
-few_before depth cs i c all is =
-    let before = take i cs in
-    let d = get_or cs i c in
-    let follows = follows_accepted depth before d (are_accepted_at depth [] cs i c all is.below) in
-    let few = follows_length before d follows in
-    let below = is.below in
-    omega (arith, few, length-take i cs)
 
 -- a job that is stopped with an overflow is stopped by one, and at the first command that overflows
 stopped_by :

@@ -8,7 +8,8 @@ use Rattle.plain_tree.specs.Receipts.{HasCounted}
 use Rattle.plain_tree.specs.Trees.{HasVersions}
 use Rattle.plain_tree.specs.declared.serial_error.SerialError.TheVariants.{Overflow}
 use Rattle.plain_tree.proofs.ReceiptLemmas.{few_taken, receipts_next}
-use Rattle.plain_tree.proofs.SerialLemmas.{mapped_at, take_next, versions_next, overflow_later, limits_at, few_before, stopped_at}
+use Rattle.job_data.proofs.AcceptedLemmas.{mapped_at, limits_at, few_before}
+use Rattle.plain_tree.proofs.SerialLemmas.{take_next, versions_next, overflow_later, stopped_at}
 use Rattle.plain_tree.proofs.jobs.with_receipts.Goals as goal
 
 pub loop-index-init : goal.loop-index-init

@@ -4,7 +4,8 @@ use Rattle.tree_model.specs.Versions.{versions_behind}
 use Rattle.job_data.specs.Data.{data_of}
 use Rattle.plain_tree.specs.Trees.{HasVersions}
 use Rattle.plain_tree.specs.declared.serial_error.SerialError.TheVariants.{Overflow}
-use Rattle.plain_tree.proofs.SerialLemmas.{mapped_at, versions_next, lines_next, overflow_later, limits_at, few_before, stopped_at}
+use Rattle.job_data.proofs.AcceptedLemmas.{mapped_at, limits_at, few_before}
+use Rattle.plain_tree.proofs.SerialLemmas.{versions_next, lines_next, overflow_later, stopped_at}
 use Rattle.plain_tree.proofs.jobs.without_receipts.Goals as goal
 
 pub run_command-requires-clause-limits : goal.run_command-requires-clause-limits
