@@ -223,14 +223,17 @@ lane_named ranks workers (x ∷ log) l e es h has = step (lane_named ranks worke
     step rest false apart is = rest is
 
 pub parts_are_of_a_book : PartsAreOfABook
-parts_are_of_a_book ranks workers log range few legal = (record {
-  ranks = range;
-  workers = few;
-  named = all_parts (λ p. IsLane ranks workers p.lane) log lanes (All-weaker (IsLane ranks workers) (λ l. (e : Event) (es : List Event) → part l log ≡ e ∷ es → IsLane ranks workers l) (λ l is e es has. is) lanes (named_all ranks workers));
-  ordered = ordered_parts log lanes (ordered_all ranks workers);
-  written = all_parts (λ p. 1 ≤ length p.events) log lanes (λ i d lt e es has. let n = length-reverse (e ∷ es) in omega (arith, n));
-  rows = all_parts (λ p. All (HasRows ranks) p.events) log lanes (λ i d lt e es has. all_reversed (HasRows ranks) (e ∷ es) (subst (All (HasRows ranks)) has (part_rows ranks workers _ log legal)));
-}, λ l. sym (ap reverse (sym (found log l lanes (among l (part l log) refl))) ∙ reverse-reverse (part l log)))
+parts_are_of_a_book ranks workers log range few legal = (
+  record {
+    ranks = range;
+    workers = few;
+    named = all_parts (λ p. IsLane ranks workers p.lane) log lanes (All-weaker (IsLane ranks workers) (λ l. (e : Event) (es : List Event) → part l log ≡ e ∷ es → IsLane ranks workers l) (λ l is e es has. is) lanes (named_all ranks workers));
+    ordered = ordered_parts log lanes (ordered_all ranks workers);
+    written = all_parts (λ p. 1 ≤ length p.events) log lanes (λ i d lt e es has. let n = length-reverse (e ∷ es) in omega (arith, n));
+    rows = all_parts (λ p. All (HasRows ranks) p.events) log lanes (λ i d lt e es has. all_reversed (HasRows ranks) (e ∷ es) (subst (All (HasRows ranks)) has (part_rows ranks workers _ log legal)));
+  },
+  λ l. sym (ap reverse (sym (found log l lanes (among l (part l log) refl))) ∙ reverse-reverse (part l log)),
+)
   where
     lanes : List LaneName
     lanes = lanes_in_order ranks workers

@@ -159,10 +159,12 @@ impl LaneRecord {
         self.spare -= 1;
         if let Some(trace) = &mut self.trace {
             match item {
-                Some(Item::Message {
-                    rank,
-                    number: message,
-                }) => trace.handled(number, rank, message),
+                Some(
+                    Item::Message {
+                        rank,
+                        number: message,
+                    },
+                ) => trace.handled(number, rank, message),
                 Some(Item::Task { rank, number: task }) => trace.ran(number, rank, task),
                 None => {}
             }

@@ -64,7 +64,9 @@ impl<A: Facts> Words<A> {
     {
         let name = lane.name;
         match self.fold(root, lane) {
-            Some(trace) if !trace.is_empty() => root.parts.push_reserved(LanePart::new(name, trace)),
+            Some(trace) if !trace.is_empty() => root
+                .parts
+                .push_reserved(LanePart::new(name, trace)),
             _ => {}
         }
     }
