@@ -1,4 +1,4 @@
 pub mod Planning
 pub mod KeptPlans
-pub mod Results
+pub mod PlannedApps
 pub mod AppLaws

@@ -1,4 +1,5 @@
 //! The tree application of a job.
+ghost use Rattle.std.specs.Prelude.{◌≡◌};
 ghost use Rattle.app_core.specs.Commands.{IsRankCount};
 ghost use Rattle.haar_app.specs.KeptPlans.{IsKept, kept_prop};
 ghost use Rattle.haar_app.specs.Planning.{planned};
@@ -17,5 +18,6 @@ pub struct HaarApp {
     pub map: OwnerMap,
     pub ranks: u32,
     pub ghost in_range: { IsRankCount ranks },
+    pub ghost same_depth: { commands.depth ≡ job.depth },
     pub ghost is_kept: { IsKept (planned job commands.depth commands.operations.items map ranks) } by { kept_prop (planned job commands.depth commands.operations.items map ranks) },
 }

@@ -19,4 +19,4 @@ pub use app_core::OutOfMemory;
 pub use haar_app::HaarApp;
 pub use haar_base::{Down, Haar, Held, Operation, Side, Sides, Unit, Up, Value};
 pub use haar_lines::Lines;
-pub use results::ResultError;
+pub use haar_results::{JobLines, ResultError};

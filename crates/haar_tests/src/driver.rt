@@ -240,4 +240,27 @@ impl Driver {
         }
         Ok((text, None))
     }
+
+    // The values of all results: one for each command but fences, in order.
+    fn values(&self, alloc: Global, app: &HaarApp) -> Result<Vec<Value>, Fail> {
+        let mut values = Vec::new(alloc);
+        let count = app.commands();
+        for before in 0..count {
+            let Some(future) = app.result(before + 1) else {
+                continue;
+            };
+            match self.results.get(&future) {
+                Some(value) => values.push(app.copy_value(alloc, value)?)?,
+                None => return Err(Fail::from("a result isn't there")),
+            }
+        }
+        Ok(values)
+    }
+
+    /// The same, made of all results at once.
+    pub fn lines(&self, alloc: Global, app: &HaarApp) -> Result<(Text, Option<u32>), Fail> {
+        let values = self.values(alloc, app)?;
+        let lines = app.lines_of_results(alloc, &values)?;
+        Ok((lines.text, lines.overflow))
+    }
 }

@@ -42,10 +42,13 @@ fn agrees(
     let app = HaarApp::new(alloc, job, map, ranks)?;
     let mut driver = Driver::new(alloc, order);
     let (made, at) = driver.text(alloc, &app)?;
-    Ok(made.bytes() == text.bytes() && at == overflow)
+    let (lines, overflow_at) = driver.lines(alloc, &app)?;
+    let same = lines.bytes() == text.bytes() && overflow_at == overflow;
+    Ok(same && made.bytes() == text.bytes() && at == overflow)
 }
 
-const JOBS: [&[u8]; 14] = [
+const JOBS: [&[u8]; 15] = [
+    b"job 1 depth 1\nproject f step 1 1 16777216 level 0 tol 0\nprint f\ncompress f\nfence\nprint f\nadd g = 1 f + 1 f\nprint g\n",
     b"job 1 depth 0\nproject f const 5 level 0 tol 0\nprint f\n",
     b"job 1 depth 2\nproject f ramp 0 1 level 0 tol 0\nprint f\n",
     b"job 1 depth 2\nproject f ramp 0 1 level 0 tol 0\ncompress f\nprint f\n",

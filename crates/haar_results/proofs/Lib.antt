@@ -1,0 +1,4 @@
+pub mod PrintedLemmas
+pub mod ResultLemmas
+pub mod JobTextLemmas
+pub mod MadeLemmas

@@ -1,0 +1,4 @@
+pub mod Results
+pub mod RightResults
+pub mod Texts
+pub mod SmallResults
