@@ -1,0 +1,7 @@
+//! Tests of the counter words: lanes that go through whole runs, on one thread and on two.
+//!
+//! The turns that the tests share are functions with contracts of their own, so that each condition of each call is
+//! proved.
+#![tactic(auto)]
+
+pub mod turns;

@@ -1,0 +1,197 @@
+//! The turns of mains through a fence: they enter, read counts, tell their rows, make a receipt and leave.
+ghost use Rattle.std.specs.Prelude.{◌≡◌, ℕ, ◌+◌, ◌<◌, ◌≤◌, true, false, None, Some, slice_get, suc, [], Contains, IfOk};
+ghost use Rattle.event_lists.specs.declared.receipt.Row.{Row as RowData};
+ghost use Rattle.event_lists.specs.Fences.{IsReady, has_receipt};
+ghost use Rattle.event_lists.specs.Events.{Begins};
+ghost use Rattle.event_lists.specs.declared.lane.LaneName.{LaneName as LaneNameData};
+ghost use Rattle.event_lists.specs.Legal.{IsLane};
+ghost use Rattle.world_rule.specs.Views.{empty_part};
+ghost use Rattle.event_lists.specs.OwnEvents.{has_receipt_on_lane};
+ghost use Rattle.event_laws.specs.Follows.{Wait, program_at};
+ghost use Rattle.words_tests.specs.Turns.{IsOutside, IsInside, HasRow, HasRows};
+
+use app_core::Facts;
+use event_lists::{LaneName, Receipt, Row, Rows};
+use world_words::{Lane, ReserveError, Root, Words};
+
+const ZERO: LaneName = LaneName {
+    rank: 0,
+    bin: false,
+    number: 0,
+};
+
+const ONE: LaneName = LaneName {
+    rank: 1,
+    bin: false,
+    number: 0,
+};
+
+const TWO: LaneName = LaneName {
+    rank: 2,
+    bin: false,
+    number: 0,
+};
+
+/// A main enters its next fence, after those that it left.
+pub fn enter<A: Facts>(words: &Words<A>, lane: &mut Lane, left: u32)
+    requires few { left < 100 }
+    requires outside { IsOutside words.now left lane.old }
+    requires room { 0 < lane.old.spare }
+    requires next { slice_get (program_at lane.old.name.rank words.now.program) left ≡ Some Wait }
+    ensures inside { IsInside words.now (left + 1) 1 lane.new }
+    ensures open { has_receipt_on_lane (left + 1) lane.new.mine ≡ false }
+    ensures name { lane.new.name ≡ lane.old.name }
+    ensures room { lane.old.spare ≤ lane.new.spare + 1 }
+{
+    words.mark_enter(lane, left + 1);
+}
+
+/// A main reads the counts of its rank in a pass, which is then complete where it finds as many tasks submitted as run.
+pub fn attempt<A: Facts>(words: &Words<A>, lane: &mut Lane, fence: u32, pass: u64) -> Option<Row>
+    requires inside { IsInside words.now fence pass lane.old }
+    requires ready { IsReady words.now.ranks fence pass lane.old.seen }
+    requires room { 3 < lane.old.spare }
+    ensures again { result ≡ None → IsInside words.now fence pass lane.new }
+    ensures inside { (row : RowData) → result ≡ Some row → IsInside words.now fence (suc pass) lane.new }
+    ensures row { (row : RowData) → result ≡ Some row → HasRow fence pass lane.new.name.rank row lane.new.seen }
+    ensures open { has_receipt_on_lane fence lane.old.mine ≡ false → has_receipt_on_lane fence lane.new.mine ≡ false }
+    ensures name { lane.new.name ≡ lane.old.name }
+    ensures knows { Begins lane.old.seen lane.new.seen }
+    ensures room { lane.old.spare ≤ lane.new.spare + 4 }
+{
+    let handled = words.read_handled(lane, fence, pass);
+    let tasks = words.read_ran(lane, fence, pass);
+    let submitted = words.read_submitted(lane, fence, pass);
+    if submitted != tasks {
+        return None;
+    }
+    let sent = words.read_sent(lane, fence, pass);
+    Some(Row {
+        sent,
+        handled,
+        tasks,
+    })
+}
+
+/// A main in a fence learns what another main knows: rows, and the fence's receipt.
+pub fn share<A: Facts>(words: &Words<A>, from: &mut Lane, to: &mut Lane, fence: u32, pass: u64)
+    requires from { from.old.table ≡ words.now.table }
+    requires to { IsInside words.now fence pass to.old }
+    ensures from { from.new ≡ from.old }
+    ensures inside { IsInside words.now fence pass to.new }
+    ensures lane { to.new ≡ record to.old { seen = to.new.seen } }
+    ensures learnt { (f p q : ℕ) (row : RowData) → HasRow f p q row from.old.seen → HasRow f p q row to.new.seen }
+    ensures knew { (f p q : ℕ) (row : RowData) → HasRow f p q row to.old.seen → HasRow f p q row to.new.seen }
+    ensures receipt { has_receipt fence from.old.seen ≡ true → has_receipt fence to.new.seen ≡ true }
+{
+    let told = words.tell(from);
+    words.learn(to, told);
+}
+
+/// A main leaves the fence whose receipt it knows.
+pub fn leave<A: Facts>(words: &Words<A>, lane: &mut Lane, fence: u32, pass: u64)
+    requires inside { IsInside words.now fence pass lane.old }
+    requires receipt { has_receipt fence lane.old.seen ≡ true }
+    requires room { 0 < lane.old.spare }
+    ensures outside { IsOutside words.now fence lane.new }
+    ensures name { lane.new.name ≡ lane.old.name }
+    ensures room { lane.old.spare ≤ lane.new.spare + 1 }
+{
+    words.mark_leave(lane, fence);
+}
+
+// The sum of three numbers.
+fn sum(a: u64, b: u64, c: u64) -> u128
+    ensures { result ≡ c + (b + (a + 0)) }
+{
+    u128::from(c) + (u128::from(b) + u128::from(a))
+}
+
+/// The rows of three ranks in a pass.
+#[derive(Clone, Copy, Debug, PartialEq, Eq)]
+pub struct ThreeRows {
+    pub zero: Row,
+    pub one: Row,
+    pub two: Row,
+}
+
+impl ThreeRows {
+    /// Whether as many messages were handled as sent.
+    pub fn is_quiet(&self) -> bool
+        ensures { result ≡ true → self.now.two.sent + (self.now.one.sent + (self.now.zero.sent + 0)) ≡ self.now.two.handled + (self.now.one.handled + (self.now.zero.handled + 0)) }
+    {
+        sum(self.zero.sent, self.one.sent, self.two.sent)
+            == sum(self.zero.handled, self.one.handled, self.two.handled)
+    }
+}
+
+/// The main of rank 0 makes the receipt of its fence from these rows, which two passes found, where they are quiet.
+pub fn receive<A: Facts>(
+    words: &Words<A>,
+    lane: &mut Lane,
+    fence: u32,
+    pass: u64,
+    rows: &ThreeRows,
+) -> bool
+    requires ranks { words.now.ranks ≡ 3 }
+    requires inside { IsInside words.now fence (suc pass) lane.old }
+    requires rank { lane.old.name.rank ≡ 0 }
+    requires open { has_receipt_on_lane fence lane.old.mine ≡ false }
+    requires first { (p : ℕ) × (pass ≡ suc (suc p)) × HasRows fence (suc p) rows.now.zero rows.now.one rows.now.two lane.old.seen }
+    requires again { HasRows fence pass rows.now.zero rows.now.one rows.now.two lane.old.seen }
+    requires room { 0 < lane.old.spare }
+    ensures inside { IsInside words.now fence (suc pass) lane.new }
+    ensures name { lane.new.name ≡ lane.old.name }
+    ensures receipt { result ≡ true → has_receipt fence lane.new.seen ≡ true }
+    ensures room { lane.old.spare ≤ lane.new.spare + 1 }
+{
+    let Some(kept) = Rows::of(&[rows.zero, rows.one, rows.two]) else {
+        return false;
+    };
+    if rows.is_quiet() {
+        let receipt = Receipt {
+            fence,
+            pass,
+            rows: kept,
+        };
+        words.mark_receipt(lane, &receipt);
+        return true;
+    }
+    false
+}
+
+/// The lanes of the mains of three ranks, with room for a hundred events each.
+pub fn three_mains<A: Facts>(
+    words: &Words<A>,
+    root: &mut Root,
+) -> Result<(Lane, Lane, Lane), ReserveError>
+    requires table { root.old.table ≡ words.now.table }
+    requires ranks { words.now.ranks ≡ 3 }
+    requires new { root.old.seen ≡ [] }
+    requires has { (l : LaneNameData) → IsLane 3 0 l → Contains root.old.parts (empty_part l) }
+    ensures zero { IfOk result (λ r. IsOutside words.now 0 r.0 × (r.0.name.rank ≡ 0) × (100 ≤ r.0.spare)) }
+    ensures one { IfOk result (λ r. IsOutside words.now 0 r.1 × (r.1.name.rank ≡ 1) × (100 ≤ r.1.spare)) }
+    ensures two { IfOk result (λ r. IsOutside words.now 0 r.2 × (r.2.name.rank ≡ 2) × (100 ≤ r.2.spare)) }
+{
+    let mut zero = words.lane(root, ZERO);
+    let mut one = words.lane(root, ONE);
+    let mut two = words.lane(root, TWO);
+    words.reserve(&mut zero, 100)?;
+    words.reserve(&mut one, 100)?;
+    words.reserve(&mut two, 100)?;
+    Ok((zero, one, two))
+}
+
+/// A main enters its first fence and reads its counts in the first pass.
+pub fn enter_and_read<A: Facts>(words: &Words<A>, lane: &mut Lane) -> Option<Row>
+    requires outside { IsOutside words.now 0 lane.old }
+    requires room { 100 ≤ lane.old.spare }
+    requires next { slice_get (program_at lane.old.name.rank words.now.program) 0 ≡ Some Wait }
+    ensures again { result ≡ None → IsInside words.now 1 1 lane.new }
+    ensures inside { (row : RowData) → result ≡ Some row → IsInside words.now 1 2 lane.new }
+    ensures row { (row : RowData) → result ≡ Some row → HasRow 1 1 lane.new.name.rank row lane.new.seen }
+    ensures name { lane.new.name ≡ lane.old.name }
+{
+    enter(words, lane, 0);
+    attempt(words, lane, 1, 1)
+}
