@@ -174,9 +174,3 @@ no_version_not_over job (suc n) c there none at = absurd (
     let own : written job.depth (versions_behind job.depth (take n job.commands)) c ≡ None = sym (ap (option_and_then (written job.depth (versions_behind job.depth (take n job.commands)))) there) ∙ none in
     let fine : command_overflows job.depth (versions_behind job.depth (take n job.commands)) c ≡ false = ap (λ (o : Option Version). option_map_or (λ (v : Version). overflows v.tree) o false) own in
     cc)
-
--- a command at which the first overflow is does so
-pub command_is_over : (job : PlannedJob) (n : ℕ) (c : Command) → slice_get job.commands n ≡ Some c → standing job (suc n) ≡ At → command_overflows job.depth (versions_behind job.depth (take n job.commands)) c ≡ true
-command_is_over job n c is at =
-    let same : suc n ≡ 1 + n = omega arith in
-    over_from job.depth no_versions 1 job.commands n c is (subst (λ (m : ℕ). standing_to m (first_overflow (job_of job)) ≡ At) same at)
