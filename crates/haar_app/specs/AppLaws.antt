@@ -29,26 +29,12 @@ use Rattle.haar_steps.specs.Starts.{starting_of, result_of, kinds_of}
 use Rattle.haar_steps.specs.Steps.{step_of}
 use Rattle.haar_steps.proofs.AppLemmas as form
 use Rattle.haar_steps.proofs.StepLemmas as steps
+use Rattle.haar_laws.specs.Laws.{AreRightFor}
 use Rattle.haar_laws.proofs.UnitLemmas.{of_form}
 use Rattle.haar_laws.proofs.RightLemmas.{steps_right}
 use Rattle.haar_laws.proofs.StartLemmas.{starts_right}
+use Rattle.haar_lists.specs.Lists.{MayCount}
 use Rattle.haar_app.specs.KeptPlans.{IsKept, planned_job}
-
--- what a unit with a label may do, read and count
-
-abbrev pub IsRightFor : PlannedJob → Unit → Given Value Node → Type 0
-IsRightFor job u given =
-    AreRightInputs (IsRightValue job) (IsRightCell job) (IsRightSize job) (needs_of u) (reads_of job.operations u) (counts_of job.operations u) (home_of job.owners u job.ranks) given
-
-abbrev pub MayDo : PlannedJob → Label → List Outline → Type 0
-MayDo job label os =
-    (u : Unit) × (given : Given Value Node) × IsUnit job u × (label_of u ≡ label) × IsRightFor job u given × (os ≡ told job.owners job.ranks (step_of job.depth job.operations u given))
-
-abbrev pub MayRead : PlannedJob → Label → CellName → Type 0
-MayRead job label entry = (u : Unit) × IsUnit job u × (label_of u ≡ label) × Contains (reads_of job.operations u) entry
-
-abbrev pub MayCount : PlannedJob → Label → ℕ → Type 0
-MayCount job label version = (u : Unit) × IsUnit job u × (label_of u ≡ label) × (counts_of job.operations u ≡ Some version)
 
 module _ (job : PlannedJob) (kept : IsKept job) where
   deep : job.depth ≤ 16
@@ -91,7 +77,7 @@ module _ (job : PlannedJob) (kept : IsKept job) where
       by_count None e = tt
       by_count (Some version) e = (u, is, refl, e)
 
-  pub step_right : (u : Unit) (given : Given Value Node) → IsUnit job u → IsRightFor job u given → AllByRecursion (IsRightEffect (IsRightValue job) (IsRightCell job) (IsUnit job)) (step_of job.depth job.operations u given)
+  pub step_right : (u : Unit) (given : Given Value Node) → IsUnit job u → AreRightFor job u given → AllByRecursion (IsRightEffect (IsRightValue job) (IsRightCell job) (IsUnit job)) (step_of job.depth job.operations u given)
   step_right u given is right = steps_right job u given (planned_job job kept) is right
 
   pub start_right : (command : ℕ) → AllByRecursion (IsRightEffect (IsRightValue job) (IsRightCell job) (IsUnit job)) (starting_of job.operations command job.ranks)

@@ -2,3 +2,4 @@ pub mod Planning
 pub mod KeptPlans
 pub mod PlannedApps
 pub mod AppLaws
+pub mod AppListLaws

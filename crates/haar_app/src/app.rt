@@ -8,6 +8,7 @@ ghost use Rattle.haar_base.specs.Units as units;
 ghost use Rattle.haar_steps.specs.Forms.{told};
 ghost use Rattle.haar_steps.specs.Starts as starts;
 ghost use Rattle.haar_steps.specs.Steps as steps;
+ghost use Rattle.haar_lists.specs.Lists as lists;
 ghost use Rattle.haar_app.specs.AppLaws as laws;
 ghost use Rattle.haar_app.specs.Planning.{planned};
 
@@ -25,11 +26,11 @@ impl Facts for HaarApp {
 
     ghost starts_of = { λ app command. told app.map app.ranks (starts.starting_of app.commands.operations.items command app.ranks) };
 
-    ghost may_do = { λ app label os. laws.MayDo (planned app.job app.commands.depth app.commands.operations.items app.map app.ranks) label os };
+    ghost may_do = { λ app label os. lists.MayDo (planned app.job app.commands.depth app.commands.operations.items app.map app.ranks) label os };
 
-    ghost may_read = { λ app label entry. laws.MayRead (planned app.job app.commands.depth app.commands.operations.items app.map app.ranks) label entry };
+    ghost may_read = { λ app label entry. lists.MayRead (planned app.job app.commands.depth app.commands.operations.items app.map app.ranks) label entry };
 
-    ghost may_count = { λ app label version. laws.MayCount (planned app.job app.commands.depth app.commands.operations.items app.map app.ranks) label version };
+    ghost may_count = { λ app label version. lists.MayCount (planned app.job app.commands.depth app.commands.operations.items app.map app.ranks) label version };
 
     ghost right_size = { λ app rank version number. IsRightSize (planned app.job app.commands.depth app.commands.operations.items app.map app.ranks) rank version number };
 

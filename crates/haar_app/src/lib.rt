@@ -12,6 +12,7 @@
 
 mod app;
 mod haar_app;
+mod list_laws;
 mod planning;
 mod results;
 

@@ -1,4 +1,4 @@
--- On right inputs each effect of a unit is right. The application of a job, above, cites this.
+-- On right inputs each effect of a unit is right. Crates above cite this.
 use Rattle.std.proofs.Common.{◌≡◌, ℕ, zero, suc, ◌+◌, ◌^◌, ◌≤◌, ◌<◌, Bool, true, false, if◌then◌else◌, List, [], ◌∷◌, ◌++◌, Option, Some, None, refl, sym, ap, ◌∙◌, subst, arith, nat_lt, nat_le, leb-true, length-take}
 use Rattle.std.specs.Prelude.{slice_get, take}
 use Rattle.std.specs.List.{AllByRecursion}
@@ -65,7 +65,7 @@ module _ (job : PlannedJob) where
     second_read (Entry known) version (c ∷ cells) r = stored version c r.0
     second_read (Below sum) version cells r = tt
 
-    both_read : (first second : Side) (one other : ℕ) (cells : List Node) → AreRight (IsRightCell job) (side_reads first one key ++ side_reads second other key) cells
+    pub both_read : (first second : Side) (one other : ℕ) (cells : List Node) → AreRight (IsRightCell job) (side_reads first one key ++ side_reads second other key) cells
         → IsRightRead job one key first (first_cell first cells) × IsRightRead job other key second (second_cell first cells)
     both_read Nothing second one other cells r = (tt, second_read second other cells r)
     both_read (Entry known) second one other [] r = absurd r
@@ -92,10 +92,10 @@ module _ (job : PlannedJob) where
     combination_right level (combinations.Give (Some n) value) r = (r.0, (r.1, tt))
     combination_right level (combinations.Merge sum) r = subst Right (sym (cond-true (nat_lt key.level 16) _ _ (lt-ltb key.level 16 level))) (r.0, (r.1, (r.2, (r.3, tt))))
 
-  known_is : (command : ℕ) (there : Bool) (operation : Operation) → operation_at job.operations command ≡ Some operation → there ≡ true → known_by there (operation_at job.operations command) ≡ operation
+  pub known_is : (command : ℕ) (there : Bool) (operation : Operation) → operation_at job.operations command ≡ Some operation → there ≡ true → known_by there (operation_at job.operations command) ≡ operation
   known_is command there operation at is = λ i. known_by (is i) (at i)
 
-  both_given : (command : ℕ) (key : Key) (values : List Value) → AreRight (IsRightValue job) (key_future command (place_of (child key false)) ∷ key_future command (place_of (child key true)) ∷ []) values
+  pub both_given : (command : ℕ) (key : Key) (values : List Value) → AreRight (IsRightValue job) (key_future command (place_of (child key false)) ∷ key_future command (place_of (child key true)) ∷ []) values
       → IsRightGive job command (child key false) (pair_of values).0 × IsRightGive job command (child key true) (pair_of values).1
   both_given command key [] r = absurd r
   both_given command key (a ∷ []) r = absurd r.1
@@ -124,7 +124,7 @@ module _ (job : PlannedJob) where
 
 -- counts
 
-size_earlier : (cs : List Command) (number source : ℕ) → HasPlan cs number (operations.Size source) → source < number
+pub size_earlier : (cs : List Command) (number source : ℕ) → HasPlan cs number (operations.Size source) → source < number
 size_earlier cs zero source p = absurd (some_none (p.at))
   where
     some_none : {c : Command} → None ≡ Some c → ⊥

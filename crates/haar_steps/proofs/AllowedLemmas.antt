@@ -181,6 +181,16 @@ allowed depth ops owners made ranks (Total command number) given deep count form
   lists = refl;
 }
 
+-- and the action is what they decide for
+pub allowed_action : (depth : ℕ) (ops : List Operation) (owners : OwnerMap) (made ranks : ℕ) (u : Unit) (given : Given Value Node) (deep : depth ≤ 16) (count : IsRankCount ranks) (form : IsOfForm depth ops made u)
+    → (allowed depth ops owners made ranks u given deep count form).action ≡ action_of depth ops u given
+unfolding allowed
+allowed_action depth ops owners made ranks (Down u) given deep count form = refl
+allowed_action depth ops owners made ranks (Up u) given deep count form = refl
+allowed_action depth ops owners made ranks (Clear command key) given deep count form = refl
+allowed_action depth ops owners made ranks (Count command rank) given deep count form = refl
+allowed_action depth ops owners made ranks (Total command number) given deep count form = refl
+
 -- starts
 
 module _ (owners : OwnerMap) (ranks : ℕ) where

@@ -2,6 +2,8 @@
 #![tactic(auto)]
 
 #[cfg(test)]
+mod both_bounds;
+#[cfg(test)]
 mod driver;
 #[cfg(test)]
 mod orders;
