@@ -56,12 +56,13 @@ fn up(command: u32, key: Key) -> Unit {
         sum: Coefficient::new(0),
         difference: Coefficient::new(0),
     };
+    let other = none;
     Unit::Up(Up {
         command,
         key,
         held: Held {
             first: none,
-            second: none,
+            second: other,
         },
     })
 }
