@@ -1,10 +1,11 @@
 //! Each kind of event goes into a trace and comes back.
-ghost use Rattle.std.specs.Prelude.{◌≤◌, length};
+ghost use Rattle.std.specs.Prelude.{◌≡◌, ◌≤◌, length, IfOk};
 ghost use Rattle.app_core.specs.Needs.{AreDistinct};
 
-use crate::{LaneTrace, Room};
+use crate::{LaneRecord, LaneTrace, Room};
 use app_core::{CellName, Label, Needs};
-use event_lists::{Event, Kind, Parcel, Receipt, Row, Rows, TaskName};
+use event_lists::{Event, Item, Kind, Parcel, Receipt, Row, Rows, TaskName};
+use std::alloc::Global;
 use std::test::Fail;
 use std::thread;
 use std::thread::Threads;
@@ -291,5 +292,40 @@ fn a_trace_is_moved_to_another_thread(rt: HostRuntime) -> Result<(), Fail> {
     trace.leave(1);
     let counts = counted_on_threads(&rt, trace, LaneTrace::new(rt.alloc()));
     assert_eq!(rt; counts, (2, 0));
+    Ok(())
+}
+
+// The record of a message that is taken and handled, after room was made for two events.
+fn of_a_message(alloc: Global, trace: bool) -> Result<LaneRecord, Fail>
+    ensures { IfOk result (λ kept. (kept.kept ≡ trace) × (kept.spare ≡ 0)) }
+{
+    let mut record = LaneRecord::new(alloc, trace);
+    record.reserve(2)?;
+    let message = Some(Item::Message { rank: 1, number: 7 });
+    record.took(message);
+    record.ended(3, message);
+    Ok(record)
+}
+
+#[test]
+fn a_record_counts_events_and_keeps_them_where_a_trace_is_wanted(rt: HostRuntime) -> Result<(), Fail> {
+    let kept = of_a_message(rt.alloc(), true)?;
+    assert_eq!(rt; (kept.made(), kept.spare()), (2, 0));
+    let Some(trace) = kept.into_trace() else {
+        return Err(Fail::from("no trace"));
+    };
+    let events = trace.to_events(rt.alloc())?;
+    let expected = [
+        Event::TookMessage { rank: 1, number: 7 },
+        Event::Handled {
+            number: 3,
+            rank: 1,
+            message: 7,
+        },
+    ];
+    assert!(rt; events.as_slice() == expected.as_slice());
+    let counted = of_a_message(rt.alloc(), false)?;
+    assert_eq!(rt; counted.made(), 2);
+    assert!(rt; counted.into_trace().is_none());
     Ok(())
 }
