@@ -1,8 +1,8 @@
 //! Examples of how lanes exchange messages, tasks and what they know, on one thread and on two.
 ghost use Rattle.std.specs.Prelude.{◌≡◌, ◌≢◌, ℕ, ◌+◌, ◌^◌, ◌<◌, ◌≤◌, false, Some, None, List, [], ◌∷◌, slice_get};
 ghost use Rattle.app_core.specs.declared.outline.Outline.TheVariants.{Spawn};
-ghost use Rattle.event_lists.specs.declared.event.Event.TheVariants.{Sent, TookMessage, Submitted, Handled};
-ghost use Rattle.event_lists.specs.declared.event.Parcel.TheVariants.{Unit as Spawned};
+ghost use Rattle.event_lists.specs.declared.event.Event.TheVariants.{Sent, TookMessage, Submitted, Gave, Handled};
+ghost use Rattle.event_lists.specs.declared.event.Parcel.TheVariants.{Unit as Spawned, Give};
 ghost use Rattle.event_lists.specs.declared.mark.Item.TheVariants.{Message, Task};
 ghost use Rattle.event_lists.specs.Events.{main_of, in_hand, IsSent};
 ghost use Rattle.event_laws.specs.Follows.{Start, program_at};
@@ -24,7 +24,7 @@ pub fn start<A: Facts>(words: &Words<A>, lane: &mut Lane, to: u32, unit: Label) 
     requires target { (to < words.now.ranks) × (to ≢ lane.old.name.rank) }
     requires next { slice_get (program_at lane.old.name.rank words.now.program) 0 ≡ Some (Start (Spawn unit None [] to)) }
     ensures carrier { (n : ℕ) × (result.table ≡ lane.old.table) × (result.owed ≡ owed (Counted (Message lane.old.name.rank n)) to (OfMessage (Spawned unit None))) × IsSent lane.old.name.rank n to (Spawned unit None) result.seen }
-    ensures lane { (n : ℕ) × (lane.new.mine ≡ Sent n to (Spawned unit None) ∷ []) × (lane.new.table ≡ lane.old.table) × (lane.new.name ≡ lane.old.name) × (lane.new.owes ≡ None) × (lane.new.progress ≡ lane.old.progress) }
+    ensures lane { (n : ℕ) × (lane.new.mine ≡ Sent n to (Spawned unit None) ∷ []) × (lane.new.table ≡ lane.old.table) × (lane.new.name ≡ lane.old.name) × (lane.new.owes ≡ None) × (lane.new.progress ≡ lane.old.progress) × (lane.new.kept ≡ lane.old.kept) }
 {
     words.sent(lane, to, Parcel::Unit { unit, due: None });
     words.pack(lane)
@@ -36,13 +36,25 @@ pub fn serve<A: Facts>(words: &Words<A>, lane: &mut Lane, carrier: Carrier, unit
     requires lane { (lane.old.mine ≡ []) × (lane.old.owes ≡ None) × (2 < lane.old.spare) × (lane.old.name.bin ≡ false) }
     requires carrier { (rank : ℕ) × (number : ℕ) × (carrier.owed ≡ owed (Counted (Message rank number)) lane.old.name.rank (OfMessage (Spawned unit None))) × IsSent rank number lane.old.name.rank (Spawned unit None) carrier.seen }
     ensures lane { (rank : ℕ) × (number : ℕ) × (n : ℕ) × (m : ℕ) × (lane.new.mine ≡ Handled n rank number ∷ Submitted m (task_name unit [] None) ∷ TookMessage rank number ∷ []) }
-    ensures same { (lane.new.table ≡ lane.old.table) × (lane.new.name ≡ lane.old.name) × (lane.new.owes ≡ None) × (lane.new.progress ≡ lane.old.progress) }
+    ensures same { (lane.new.table ≡ lane.old.table) × (lane.new.name ≡ lane.old.name) × (lane.new.owes ≡ None) × (lane.new.progress ≡ lane.old.progress) × (lane.new.kept ≡ lane.old.kept) }
 {
     words.take_in(lane, carrier);
     words.submitted(lane, unit, &[], None);
     let task = words.pack(lane);
     words.handled(lane);
     task
+}
+
+/// Another main takes the value of a future that a message brought, and gives it. There is room for one event more.
+pub fn accept<A: Facts>(words: &Words<A>, lane: &mut Lane, carrier: Carrier, future: Label)
+    requires table { (lane.old.table ≡ words.now.table) × (carrier.table ≡ words.now.table) }
+    requires lane { (lane.old.mine ≡ []) × (lane.old.owes ≡ None) × (3 < lane.old.spare) × (lane.old.name.bin ≡ false) }
+    requires carrier { (rank : ℕ) × (number : ℕ) × (carrier.owed ≡ owed (Counted (Message rank number)) lane.old.name.rank (OfMessage (Give future))) × IsSent rank number lane.old.name.rank (Give future) carrier.seen }
+    ensures lane { (rank : ℕ) × (number : ℕ) × (n : ℕ) × (lane.new.mine ≡ Handled n rank number ∷ Gave future ∷ TookMessage rank number ∷ []) }
+{
+    words.take_in(lane, carrier);
+    words.gave(lane, future);
+    words.handled(lane);
 }
 
 /// Two lanes in two threads tell what they know; each then learns the other's.
