@@ -142,6 +142,9 @@ fn what_lanes_kept_is_a_book_that_is_accepted(rt: HostRuntime) -> Result<(), Fai
 fn without_a_trace_the_book_is_empty(rt: HostRuntime) -> Result<(), Fail> {
     let (track, book) = closed(rt.alloc(), &rt, false)?;
     track.is_lawful();
-    assert_eq!(rt; (book.ranks(), book.workers(), book.parts().len()), (2, 0, 0));
+    assert_eq!(rt;
+        (book.ranks(), book.workers(), book.parts().len()),
+        (2, 0, 0)
+    );
     Ok(())
 }

@@ -308,7 +308,9 @@ fn of_a_message(alloc: Global, trace: bool) -> Result<LaneRecord, Fail>
 }
 
 #[test]
-fn a_record_counts_events_and_keeps_them_where_a_trace_is_wanted(rt: HostRuntime) -> Result<(), Fail> {
+fn a_record_counts_events_and_keeps_them_where_a_trace_is_wanted(
+    rt: HostRuntime,
+) -> Result<(), Fail> {
     let kept = of_a_message(rt.alloc(), true)?;
     assert_eq!(rt; (kept.made(), kept.spare()), (2, 0));
     let Some(trace) = kept.into_trace() else {

@@ -3,10 +3,7 @@ use crate::Words;
 use crate::examples::{meet, serve, start};
 use app_core::{Facts, Label};
 use event_lists::{Item, LaneName};
-use lane_trace::LaneTrace;
-use std::alloc::Global;
 use std::test::Fail;
-use std::thread::Threads;
 
 // An application with one command, whose only start is a unit at rank 1 without effects.
 struct Pair;
@@ -55,26 +52,9 @@ const SECOND: LaneName = LaneName {
     number: 0,
 };
 
-// Two mains exchange a unit, meet in two threads, and are folded: what they kept.
-fn exchanged<R: Threads + Sync>(
-    alloc: Global,
-    rt: &R,
-    trace: bool,
-) -> Result<(Option<LaneTrace>, Option<LaneTrace>), Fail> {
-    let (words, mut root) = Words::with_root(alloc, &Pair, 2, 0, trace)?;
-    let mut one = words.lane(&mut root, FIRST);
-    let mut two = words.lane(&mut root, SECOND);
-    words.reserve(&mut one, 1)?;
-    words.reserve(&mut two, 3)?;
-    let carrier = start(&words, &mut one, 1, UNIT);
-    let _task = serve(&words, &mut two, carrier, UNIT);
-    let (one, two) = meet(rt, &words, one, two);
-    Ok((words.fold(&mut root, one), words.fold(&mut root, two)))
-}
-
 #[test]
 fn a_unit_goes_to_another_rank(rt: HostRuntime) -> Result<(), Fail> {
-    let (words, mut root) = Words::with_root(rt.alloc(), &Pair, 2, 0, false)?;
+    let (words, mut root) = Words::with_root(rt.alloc(), &Pair, 2, 0, true)?;
     let mut one = words.lane(&mut root, FIRST);
     let mut two = words.lane(&mut root, SECOND);
     words.reserve(&mut one, 1)?;
@@ -84,15 +64,12 @@ fn a_unit_goes_to_another_rank(rt: HostRuntime) -> Result<(), Fail> {
     let task = serve(&words, &mut two, carrier, UNIT);
     assert_eq!(rt; task.item, Some(Item::Task { rank: 1, number: 0 }));
     assert_eq!(rt; (one.spare(), two.spare()), (0, 0));
-    Ok(())
-}
-
-#[test]
-fn no_trace_is_kept_where_none_is_wanted(rt: HostRuntime) -> Result<(), Fail> {
-    let (one, two) = exchanged(rt.alloc(), &rt, false)?;
-    assert!(rt; one.is_none() && two.is_none());
-    let (one, two) = exchanged(rt.alloc(), &rt, true)?;
-    assert!(rt; one.is_some() && two.is_some());
+    let (one, two) = meet(&rt, &words, one, two);
+    let Some(trace) = words.fold(&mut root, one) else {
+        return Err(Fail::from("no trace"));
+    };
+    assert_eq!(rt; trace.len(), 1);
+    assert!(rt; words.fold(&mut root, two).is_some());
     Ok(())
 }
 
@@ -104,7 +81,10 @@ fn the_stop_word_is_set_for_all_and_changes_no_count(rt: HostRuntime) -> Result<
     assert!(rt; !words.is_stopped(&mut one) && !words.is_stopped(&mut two));
     words.stop(&mut one);
     assert!(rt; words.is_stopped(&mut one) && words.is_stopped(&mut two));
-    assert_eq!(rt; (words.look_ran(&mut one), words.look_submitted(&mut two)), (0, 0));
+    assert_eq!(rt;
+        (words.look_ran(&mut one), words.look_submitted(&mut two)),
+        (0, 0)
+    );
     Ok(())
 }
 
@@ -116,17 +96,5 @@ fn room_is_made_and_kept(rt: HostRuntime) -> Result<(), Fail> {
     words.reserve(&mut one, 5)?;
     words.reserve(&mut one, 3)?;
     assert_eq!(rt; one.spare(), 5);
-    Ok(())
-}
-
-#[test]
-fn all_lanes_are_closed_without_events(rt: HostRuntime) -> Result<(), Fail> {
-    for trace in [true, false] {
-        let (words, lanes) = Words::new(rt.alloc(), &Pair, 2, 1, trace)?;
-        assert_eq!(rt; (lanes.hands.len(), lanes.bins.len()), (2, 2));
-        let (track, book) = words.close(lanes);
-        track.is_lawful();
-        assert_eq!(rt; (book.ranks(), book.workers(), book.parts().len()), (2, 1, 0));
-    }
     Ok(())
 }

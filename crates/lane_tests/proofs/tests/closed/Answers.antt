@@ -7,7 +7,7 @@ use Rattle.lane_tests.proofs.tests.closed.Goals as goal
 
 -- two lanes of the same names, which are free too, stand in place of the only two hands
 in_place : {A : Type 0} (words : WordsView A) (a b x y : LaneView) (bins : List (List LaneView)) → AreAllLanes words ((a ∷ []) ∷ (b ∷ []) ∷ []) bins
-  → x.name ≡ a.name → y.name ≡ b.name → IsFree words x → IsFree words y → AreAllLanes words ((x ∷ []) ∷ (y ∷ []) ∷ []) bins
+    → x.name ≡ a.name → y.name ≡ b.name → IsFree words x → IsFree words y → AreAllLanes words ((x ∷ []) ∷ (y ∷ []) ∷ []) bins
 in_place words a b x y bins all e f p q = record {
   names = (λ j. e j ∷ f j ∷ map name_of (all_of bins)) ∙ all.names;
   free = All-cons (IsFree words) x (y ∷ all_of bins) p (All-cons (IsFree words) y (all_of bins) q (λ i d lt. all.free (suc (suc i)) d (omega arith)));
