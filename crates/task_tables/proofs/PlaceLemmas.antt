@@ -1,7 +1,7 @@
 -- What fills the places of a task stays right for their names.
 use Rattle.std.proofs.Common.{◌≡◌, ℕ, zero, suc, List, [], ◌∷◌, Option, Some, None, length, map, Bool, true, false, refl, ap, sym, subst}
 use Rattle.std.proofs.lemmas.List.{length-set}
-use Rattle.std.specs.Prelude.{IfSome, replicate, slice_get, slice_set}
+use Rattle.std.specs.Prelude.{replicate, slice_get, slice_set}
 use Rattle.app_core.specs.Inputs.{AreRight}
 use Rattle.task_tables.specs.Places.{AreRightPlaces}
 

@@ -1,3 +1,4 @@
+pub mod Examples
 pub mod Futures
 pub mod Giving
 pub mod Places

@@ -1,5 +1,5 @@
 -- The places of a task: what fills each, once it is there.
-use Rattle.std.specs.Prelude.{◌≡◌, ℕ, List, [], ◌∷◌, Option, None, Some, IsNone, IfSome, slice_get, slice_set, ⊤}
+use Rattle.std.specs.Prelude.{◌≡◌, ℕ, List, [], ◌∷◌, Option, None, Some, IsNone, IfSome, slice_get, ⊤}
 use Rattle.std.specs.List.{slice_index_or}
 
 -- the place of this index is empty, and it is one for what has this name

@@ -1,10 +1,9 @@
 -- Tasks of a rank, and the table of those that wait.
-use Rattle.std.specs.Prelude.{◌≡◌, ◌↔◌, ◌==◌, ℕ, refl, cond, List, length, Option, None, Some, IsSome, slice_set}
+use Rattle.std.specs.Prelude.{◌≡◌, ◌↔◌, ◌==◌, ℕ, refl, cond, List, Option, None, Some, IsSome, slice_set}
 use Rattle.std.specs.Coded.{Coded, code_by, coded×, coded_ℕ, coded_list, coded_option}
 use Rattle.std.specs.Map.{lookup}
 use Rattle.app_core.specs.declared.label.Label.{Label}
 use Rattle.app_core.specs.declared.label.CellName.{CellName}
-use Rattle.app_core.specs.Inputs.{AreRight}
 use Rattle.event_lists.specs.declared.future.Bringer.{Bringer}
 use Rattle.depend.specs.Slots.{IsReady}
 use Rattle.task_tables.specs.declared.task_table.Filling.{Filling}

@@ -6,6 +6,7 @@
 //! among its arguments that have no value yet.
 #![tactic(auto)]
 
+mod examples;
 mod future_state;
 mod future_table;
 mod rank_tables;

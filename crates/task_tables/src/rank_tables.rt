@@ -1,14 +1,9 @@
 //! Both tables of a rank.
-ghost use Rattle.std.specs.Prelude.{◌≡◌, ◌+◌, ◌%◌, ◌^◌, [], Some, IfSome};
+ghost use Rattle.std.specs.Prelude.{◌≡◌, ◌+◌, ◌%◌, ◌^◌, []};
 
-use crate::OutOfMemory;
-use crate::future_table::{FutureTable, GiveError, Given};
-use crate::ready::Ready;
-use crate::task::Task;
+use crate::future_table::FutureTable;
 use crate::task_table::TaskTable;
-use app_core::{App, Label, Naming};
-use event_lists::{Bringer, Future};
-use future_cell::{Callback, Callbacks};
+use app_core::{App, Naming};
 use std::alloc::Global;
 
 /// The futures and the waiting tasks of a rank, for one lock, and the number of its next task.
