@@ -1,5 +1,5 @@
 //! The application of a job, under the bounds of an application and of its laws on lists of events.
-ghost use Rattle.std.specs.Prelude.{◌≡◌, ℕ, ◌<◌, length, Some};
+ghost use Rattle.std.specs.Prelude.{◌≡◌, length};
 
 use app_core::App;
 use event_laws::ListLaws;
@@ -8,12 +8,9 @@ use job_lang::parse;
 use owner_map::OwnerMap;
 use std::test::Fail;
 
-// How many commands an application has. Of a version that a sound command writes, the number of the places that a rank
-// holds is a right size.
+// How many commands an application has that also has laws on lists of events.
 fn count_commands<A: App + ListLaws>(app: &A) -> u32
-    ensures number { result ≡ length (A.kinds_of app.now) }
-    ensures sizes { (rank version command : ℕ) → rank < A.ranks_of app.now → A.writer_of app.now version ≡ Some command → A.is_sound app.now command
-        → A.right_size app.now rank version (length (A.holds_of app.now rank version)) }
+    ensures { result ≡ length (A.kinds_of app.now) }
 {
     app.commands()
 }
