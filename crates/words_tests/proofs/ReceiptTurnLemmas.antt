@@ -1,11 +1,12 @@
 -- A receipt of three ranks may come where two passes found the same quiet rows.
-use Rattle.std.proofs.Common.{◌≡◌, ℕ, zero, suc, ◌+◌, ◌<◌, List, [], ◌∷◌, refl, sym, ap, subst, ◌∙◌, arith}
-use Rattle.std.specs.Prelude.{Some, slice_get}
+use Rattle.std.proofs.Common.{◌≡◌, ℕ, zero, suc, ◌+◌, ◌<◌, List, [], ◌∷◌, refl, sym, subst, ◌∙◌, arith}
+use Rattle.std.specs.Prelude.{slice_get, Bool, true, ◌&&◌, ◌==◌}
+use Rattle.std.proofs.lemmas.Bool.{and_parts, eqb-true}
 use Rattle.event_lists.specs.declared.mark.Mark.{Mark}
 use Rattle.event_lists.specs.declared.receipt.Row.{Row}
-use Rattle.event_lists.specs.declared.receipt.Receipt.{Receipt}
 use Rattle.event_lists.specs.Events.{main_of, part}
-use Rattle.event_lists.specs.Fences.{row_of, IsComplete, total_sent, total_handled, sent_in, handled_in, Agree, RowsAre, Receivable}
+use Rattle.event_lists.specs.Fences.{row_of, IsComplete, total_sent, total_handled, sent_in, handled_in, RowsAre, Receivable, IsReady}
+use Rattle.words_tests.specs.declared.turns.ThreeRows.{ThreeRows}
 use Rattle.words_tests.specs.Turns.{HasRow, HasRows}
 
 module _ (fence p : ℕ) (a b c : Row) (log : List Mark) (h : HasRows fence p a b c log) where
@@ -29,6 +30,40 @@ module _ (fence p : ℕ) (a b c : Row) (log : List Mark) (h : HasRows fence p a 
       of_rank (suc zero) lt = h.second
       of_rank (suc (suc zero)) lt = h.third
       of_rank (suc (suc (suc q))) lt = absurd (omega (arith, lt))
+
+-- where the three rows of a pass are known, the next pass may be begun
+pub ready_after : (fence p : ℕ) (a b c : Row) (log : List Mark) → HasRows fence p a b c log → IsReady 3 fence (suc p) log
+ready_after fence p a b c log h = λ d e. let is : p ≡ suc d = omega (arith, e) in subst (λ (n : ℕ). IsComplete 3 fence n log) is (three_complete fence p a b c log h)
+
+-- who knows all rows of another knows its three rows
+pub more_rows : (fence p : ℕ) (a b c : Row) (old new : List Mark) → ((q : ℕ) (row : Row) → HasRow fence p q row old → HasRow fence p q row new) → HasRows fence p a b c old → HasRows fence p a b c new
+more_rows fence p a b c old new more h = record {
+  first = more 0 a h.first;
+  second = more 1 b h.second;
+  third = more 2 c h.third;
+}
+
+-- rows whose numbers are found equal are the same
+abbrev is_same : Row → Row → Bool
+is_same a b = (a.sent == b.sent) && ((a.handled == b.handled) && (a.tasks == b.tasks))
+
+same_row : (a b : Row) → is_same a b ≡ true → a ≡ b
+same_row a b e =
+    let s = and_parts (a.sent == b.sent) ((a.handled == b.handled) && (a.tasks == b.tasks)) e in
+    let h = and_parts (a.handled == b.handled) (a.tasks == b.tasks) s.1 in
+    let sent = eqb-true a.sent b.sent s.0 in
+    let handled = eqb-true a.handled b.handled h.0 in
+    let tasks = eqb-true a.tasks b.tasks h.1 in
+    λ i. record { sent = sent i; handled = handled i; tasks = tasks i }
+
+pub same_rows : (a b : ThreeRows) → (is_same a.zero b.zero && (is_same a.one b.one && is_same a.two b.two)) ≡ true → a ≡ b
+same_rows a b e =
+    let z = and_parts (is_same a.zero b.zero) (is_same a.one b.one && is_same a.two b.two) e in
+    let o = and_parts (is_same a.one b.one) (is_same a.two b.two) z.1 in
+    let zero = same_row a.zero b.zero z.0 in
+    let one = same_row a.one b.one o.0 in
+    let two = same_row a.two b.two o.1 in
+    λ i. record { zero = zero i; one = one i; two = two i }
 
 pub receivable : (fence p : ℕ) (a b c : Row) (log : List Mark) → HasRows fence (suc p) a b c log → HasRows fence (suc (suc p)) a b c log
     → c.sent + (b.sent + (a.sent + 0)) ≡ c.handled + (b.handled + (a.handled + 0))

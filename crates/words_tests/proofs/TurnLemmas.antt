@@ -1,6 +1,6 @@
 -- How what is known of a main's lane goes on from step to step.
 use Rattle.std.proofs.Common.{◌≡◌, ℕ, suc, ◌+◌, ◌<◌, Bool, true, false, List, [], ◌∷◌, refl, sym, ap, subst, ◌∙◌, arith}
-use Rattle.std.specs.Prelude.{Option, Some, None, if◌then◌else◌, ◌&&◌, ◌||◌, ◌==◌, not}
+use Rattle.std.specs.Prelude.{Option, Some, None, if◌then◌else◌, ◌&&◌, ◌||◌}
 use Rattle.std.specs.List.{list_any}
 use Rattle.std.proofs.lemmas.Bool.{ne_eqb, eq-eqb}
 use Rattle.app_core.specs.declared.label.Label.{Label}
@@ -13,13 +13,12 @@ use Rattle.event_lists.specs.declared.kind.Kind.{Kind}
 use Rattle.event_lists.specs.declared.kind.Kind.TheVariants.{Sends as sends, Handlings as handlings, Submissions as submissions, Runs as runs}
 use Rattle.event_lists.specs.declared.kind.Reading.{Reading}
 use Rattle.event_lists.specs.declared.mark.Item.{Item}
-use Rattle.event_lists.specs.declared.mark.Mark.{Mark}
 use Rattle.event_lists.specs.declared.mark.EffectName.{EffectName}
 use Rattle.event_lists.specs.declared.lane.LaneName.{LaneName}
 use Rattle.event_lists.specs.declared.future.Bringer.{Bringer}
 use Rattle.event_lists.specs.declared.future.Bringer.TheVariants.{Main as main_at}
 use Rattle.event_lists.specs.Events.{main_of, part, in_hand, hand_after}
-use Rattle.event_lists.specs.Futures.{spawned_needs, bringer, is_bringer, was_needed, was_due}
+use Rattle.event_lists.specs.Futures.{spawned_needs, bringer, is_bringer, was_needed}
 use Rattle.event_lists.specs.Dues.{NeedsAreDues}
 use Rattle.event_lists.specs.Counting.{MaySpawn}
 use Rattle.event_lists.specs.Fences.{reading, readings, passes, enters, fence_in, has_receipt, InOrder}

@@ -6,7 +6,7 @@ use Rattle.event_lists.specs.declared.receipt.Row.{Row}
 use Rattle.event_lists.specs.declared.future.Bringer.TheVariants.{Main as main_at}
 use Rattle.event_lists.specs.declared.mark.Mark.{Mark}
 use Rattle.event_lists.specs.Events.{main_of, part, in_hand}
-use Rattle.event_lists.specs.Fences.{fence_in, enters, readings, passes, MayOpen, row_of}
+use Rattle.event_lists.specs.Fences.{fence_in, enters, readings, passes, MayOpen, row_of, IsReady}
 use Rattle.event_lists.specs.OwnEvents.{was_needed_on_lane, has_receipt_on_lane}
 use Rattle.event_lists.specs.Legal.{Legal}
 use Rattle.event_laws.specs.Follows.{deeds}
@@ -56,3 +56,16 @@ pub record HasRows (fence pass : ℕ) (a b c : Row) (log : List Mark) : Type 0 w
   pub first : HasRow fence pass 0 a log
   pub second : HasRow fence pass 1 b log
   pub third : HasRow fence pass 2 c log
+
+-- the mains of ranks 0 to 2, in this order, are in this fence, and may open an attempt of this pass
+pub record AreReady {A : Type 0} (words : WordsView A) (fence pass : ℕ) (a b c : LaneView) : Type 0 where
+  pub ranks : words.ranks ≡ 3
+  pub names : (a.name.rank ≡ 0) × (b.name.rank ≡ 1) × (c.name.rank ≡ 2)
+  pub inside : IsInside words fence pass a × IsInside words fence pass b × IsInside words fence pass c
+  pub complete : IsReady 3 fence pass a.seen × IsReady 3 fence pass b.seen × IsReady 3 fence pass c.seen
+
+-- they left all fences that they entered
+pub record AreOutside {A : Type 0} (words : WordsView A) (fences : ℕ) (a b c : LaneView) : Type 0 where
+  pub ranks : words.ranks ≡ 3
+  pub names : (a.name.rank ≡ 0) × (b.name.rank ≡ 1) × (c.name.rank ≡ 2)
+  pub outside : IsOutside words fences a × IsOutside words fences b × IsOutside words fences c

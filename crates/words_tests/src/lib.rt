@@ -4,4 +4,6 @@
 //! proved.
 #![tactic(auto)]
 
-pub mod turns;
+#[cfg(test)]
+mod tests;
+mod turns;

@@ -6,9 +6,10 @@ ghost use Rattle.event_lists.specs.Events.{Begins};
 ghost use Rattle.event_lists.specs.declared.lane.LaneName.{LaneName as LaneNameData};
 ghost use Rattle.event_lists.specs.Legal.{IsLane};
 ghost use Rattle.world_rule.specs.Views.{empty_part};
+ghost use Rattle.words_tests.specs.declared.turns.ThreeRows.{ThreeRows as ThreeRowsData};
 ghost use Rattle.event_lists.specs.OwnEvents.{has_receipt_on_lane};
 ghost use Rattle.event_laws.specs.Follows.{Wait, program_at};
-ghost use Rattle.words_tests.specs.Turns.{IsOutside, IsInside, HasRow, HasRows};
+ghost use Rattle.words_tests.specs.Turns.{IsOutside, IsInside, HasRow, HasRows, AreReady, AreOutside};
 
 use app_core::Facts;
 use event_lists::{LaneName, Receipt, Row, Rows};
@@ -182,16 +183,76 @@ pub fn three_mains<A: Facts>(
     Ok((zero, one, two))
 }
 
-/// A main enters its first fence and reads its counts in the first pass.
-pub fn enter_and_read<A: Facts>(words: &Words<A>, lane: &mut Lane) -> Option<Row>
-    requires outside { IsOutside words.now 0 lane.old }
-    requires room { 100 ≤ lane.old.spare }
-    requires next { slice_get (program_at lane.old.name.rank words.now.program) 0 ≡ Some Wait }
-    ensures again { result ≡ None → IsInside words.now 1 1 lane.new }
-    ensures inside { (row : RowData) → result ≡ Some row → IsInside words.now 1 2 lane.new }
-    ensures row { (row : RowData) → result ≡ Some row → HasRow 1 1 lane.new.name.rank row lane.new.seen }
-    ensures name { lane.new.name ≡ lane.old.name }
+/// The three mains read their counts in a pass, where none has work in flight, and learn each other's rows.
+pub fn read_all<A: Facts>(
+    words: &Words<A>,
+    zero: &mut Lane,
+    one: &mut Lane,
+    two: &mut Lane,
+    fence: u32,
+    pass: u64,
+) -> Option<ThreeRows>
+    requires ready { AreReady words.now fence pass zero.old one.old two.old }
+    requires few { pass < 100 }
+    requires room { (3 < zero.old.spare) × (3 < one.old.spare) × (3 < two.old.spare) }
+    ensures ready { (rows : ThreeRowsData) → result ≡ Some rows → AreReady words.now fence (suc pass) zero.new one.new two.new }
+    ensures rows { (rows : ThreeRowsData) → result ≡ Some rows → HasRows fence pass rows.zero rows.one rows.two zero.new.seen }
+    ensures knew { (rows : ThreeRowsData) → result ≡ Some rows → (p q : ℕ) (row : RowData) → HasRow fence p q row zero.old.seen → HasRow fence p q row zero.new.seen }
+    ensures open { has_receipt_on_lane fence zero.old.mine ≡ false → has_receipt_on_lane fence zero.new.mine ≡ false }
+    ensures room { (zero.old.spare ≤ zero.new.spare + 4) × (one.old.spare ≤ one.new.spare + 4) × (two.old.spare ≤ two.new.spare + 4) }
 {
-    enter(words, lane, 0);
-    attempt(words, lane, 1, 1)
+    let Some(first) = attempt(words, zero, fence, pass) else {
+        return None;
+    };
+    let Some(second) = attempt(words, one, fence, pass) else {
+        return None;
+    };
+    let Some(third) = attempt(words, two, fence, pass) else {
+        return None;
+    };
+    share(words, one, zero, fence, pass + 1);
+    share(words, two, zero, fence, pass + 1);
+    share(words, zero, one, fence, pass + 1);
+    share(words, zero, two, fence, pass + 1);
+    Some(ThreeRows {
+        zero: first,
+        one: second,
+        two: third,
+    })
+}
+
+/// The three mains go through their next fence, where two passes find the same quiet rows, which are the result.
+pub fn pass_fence<A: Facts>(
+    words: &Words<A>,
+    zero: &mut Lane,
+    one: &mut Lane,
+    two: &mut Lane,
+    left: u32,
+) -> Option<ThreeRows>
+    requires few { left < 100 }
+    requires outside { AreOutside words.now left zero.old one.old two.old }
+    requires room { (11 ≤ zero.old.spare) × (11 ≤ one.old.spare) × (11 ≤ two.old.spare) }
+    requires next { (r : ℕ) → slice_get (program_at r words.now.program) left ≡ Some Wait }
+    ensures outside { (rows : ThreeRowsData) → result ≡ Some rows → AreOutside words.now (left + 1) zero.new one.new two.new }
+    ensures room { (zero.old.spare ≤ zero.new.spare + 11) × (one.old.spare ≤ one.new.spare + 11) × (two.old.spare ≤ two.new.spare + 11) }
+{
+    let fence = left + 1;
+    enter(words, zero, left);
+    enter(words, one, left);
+    enter(words, two, left);
+    let Some(first) = read_all(words, zero, one, two, fence, 1) else {
+        return None;
+    };
+    let Some(second) = read_all(words, zero, one, two, fence, 2) else {
+        return None;
+    };
+    if first != second || !receive(words, zero, fence, 2, &second) {
+        return None;
+    }
+    share(words, zero, one, fence, 3);
+    share(words, zero, two, fence, 3);
+    leave(words, zero, fence, 3);
+    leave(words, one, fence, 3);
+    leave(words, two, fence, 3);
+    Some(second)
 }

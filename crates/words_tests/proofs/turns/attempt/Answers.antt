@@ -1,7 +1,7 @@
-use Rattle.std.proofs.Common.{◌≡◌, ◌∷◌, ap, refl, sym, arith}
+use Rattle.std.proofs.Common.{◌∷◌, ap, refl, arith}
 use Rattle.std.specs.Prelude.{None}
 use Rattle.event_lists.specs.declared.lane.LaneName.{LaneName}
-use Rattle.event_lists.specs.declared.kind.Kind.TheVariants.{Sends as sends, Handlings as handlings, Submissions as submissions, Runs as runs}
+use Rattle.event_lists.specs.declared.kind.Kind.TheVariants.{Handlings as handlings, Submissions as submissions, Runs as runs}
 use Rattle.event_lists.specs.Fences.{reading}
 use Rattle.event_lists.proofs.ListLemmas.{begins_trans}
 use Rattle.words_tests.proofs.TurnLemmas.{read_one, reads_next}

@@ -1,4 +1,4 @@
-use Rattle.std.proofs.Common.{◌≡◌, ap}
+use Rattle.std.proofs.Common.{ap}
 use Rattle.std.specs.Prelude.{None}
 use Rattle.event_lists.specs.declared.lane.LaneName.{LaneName}
 use Rattle.words_tests.proofs.TurnLemmas.{left_fence}

@@ -1,7 +1,6 @@
-use Rattle.std.proofs.Common.{◌≡◌, List, true, sym, ap, subst, ◌∙◌}
+use Rattle.std.proofs.Common.{List, subst}
 use Rattle.event_lists.specs.declared.mark.Mark.{Mark}
 use Rattle.event_lists.specs.Events.{Begins}
-use Rattle.event_lists.specs.Fences.{has_receipt}
 use Rattle.event_lists.proofs.FenceLemmas.{row_lasts, receipt_lasts}
 use Rattle.words_tests.proofs.TurnLemmas.{inside_still}
 use Rattle.words_tests.proofs.turns.share.Goals as goal
