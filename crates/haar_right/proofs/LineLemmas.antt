@@ -24,9 +24,9 @@ put_later x rows at (other ∷ others) =
 
 pub row_beside : (left right : List (List ℕ)) (n : ℕ) → row_at (beside left right) n ≡ row_at left n ++ row_at right n
 row_beside left [] n = sym (append-nil (row_at left n))
-row_beside [] (r ∷ rs) zero = ap (λ (rows : List (List ℕ)). row_at rows 0) (put_later r [] 0 rs)
+row_beside [] (r ∷ rs) zero = ap (λ (lines : List (List ℕ)). row_at lines 0) (put_later r [] 0 rs)
 row_beside [] (r ∷ rs) (suc n) = ap (λ (rows : List (List ℕ)). row_at rows (suc n)) (put_later r [] 0 rs) ∙ row_beside [] rs n
-row_beside (l ∷ ls) (r ∷ rs) zero = ap (λ (rows : List (List ℕ)). row_at rows 0) (put_later (l ++ r) ls 0 rs)
+row_beside (l ∷ ls) (r ∷ rs) zero = ap (λ (lines : List (List ℕ)). row_at lines 0) (put_later (l ++ r) ls 0 rs)
 row_beside (l ∷ ls) (r ∷ rs) (suc n) = ap (λ (rows : List (List ℕ)). row_at rows (suc n)) (put_later (l ++ r) ls 0 rs) ∙ row_beside ls rs n
 
 -- the keys below a key
