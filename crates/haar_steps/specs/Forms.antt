@@ -50,12 +50,12 @@ IsOfForm depth operations ranks (Total command count) = IsSizing operations comm
 -- what it decides for, as an action
 
 abbrev pub visit_action : Visit → Action
-visit_action (visits.Give node value) = Action.Stop
-visit_action (visits.Split node left right held) = Action.Descend
+visit_action (visits.Give _ _) = Action.Stop
+visit_action (visits.Split _ _ _ _) = Action.Descend
 
 abbrev pub combination_action : Combination → Action
-combination_action (combinations.Give node value) = Action.Combine
-combination_action (combinations.Merge sum) = Action.Merge
+combination_action (combinations.Give _ _) = Action.Combine
+combination_action (combinations.Merge _) = Action.Merge
 
 abbrev pub action_of : ℕ → List Operation → Unit → Given Value Node → Action
 action_of depth operations (Down u) given = visit_action (visit_of depth operations u given.cells)
