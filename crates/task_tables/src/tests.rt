@@ -23,7 +23,9 @@ fn future(by: Bringer, place: u64) -> Future {
     }
 }
 
-const fn label(place: u64) -> Label {
+const fn label(place: u64) -> Label
+    ensures { result ≡ record { command = 1; part = 0; place = place } }
+{
     Label {
         command: 1,
         part: 0,
