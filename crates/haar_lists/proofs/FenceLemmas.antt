@@ -18,7 +18,7 @@ kinds_in commands = map kind_of (map operation_of commands)
 
 -- one command more
 
-kind_is : (c : Command) → kind_of (operation_of c) ≡ (if is_fence c then is.Fence else is.Work)
+pub kind_is : (c : Command) → kind_of (operation_of c) ≡ (if is_fence c then is.Fence else is.Work)
 kind_is (Command.Project name projection) = refl
 kind_is (Command.Refine name level) = refl
 kind_is (Command.Coarsen name) = refl
@@ -31,7 +31,7 @@ kind_is (Command.Print name) = refl
 kind_is (Command.Size name) = refl
 kind_is Command.Fence = refl
 
-first_kind : (n : ℕ) (b : Bool) (k : CommandKind) (ks : List CommandKind) → k ≡ (if b then is.Fence else is.Work) → fences_before (suc n) (k ∷ ks) ≡ (if b then suc (fences_before n ks) else fences_before n ks)
+pub first_kind : (n : ℕ) (b : Bool) (k : CommandKind) (ks : List CommandKind) → k ≡ (if b then is.Fence else is.Work) → fences_before (suc n) (k ∷ ks) ≡ (if b then suc (fences_before n ks) else fences_before n ks)
 first_kind n true k ks same = ap (λ (k : CommandKind). fences_before (suc n) (k ∷ ks)) same
 first_kind n false k ks same = ap (λ (k : CommandKind). fences_before (suc n) (k ∷ ks)) same
 

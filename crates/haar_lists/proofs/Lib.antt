@@ -6,3 +6,6 @@ pub mod FenceLemmas
 pub mod ListLawLemmas
 pub mod ReadLemmas
 pub mod SmallListLemmas
+pub mod DropLemmas
+pub mod SmallRunLemmas
+pub mod SmallRunFollowsLemmas

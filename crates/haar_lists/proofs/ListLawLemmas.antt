@@ -1,4 +1,4 @@
--- The laws of an application on lists of events, of the units of a job. The application of a job, above, cites them.
+-- Lemmas that crates above use: the laws of an application on lists of events, of the units of a job.
 use Rattle.std.proofs.Common.{◌≡◌, ℕ, zero, suc, ◌+◌, ◌%◌, ◌<◌, ◌≤◌, ◌^◌, Bool, true, false, List, [], ◌∷◌, length, map, Option, Some, None, refl, sym, ap, ◌∙◌, subst, arith}
 use Rattle.std.specs.Prelude.{◌&&◌, ◌==◌, not, if◌then◌else◌, slice_get}
 use Rattle.std.specs.Option.{option_map}

@@ -1,4 +1,4 @@
--- What units read is held at their homes, and what they count is written before an earlier fence.
+-- Lemmas that crates above use: what units read is held at their homes, and what they count is written before an earlier fence.
 use Rattle.std.proofs.Common.{◌≡◌, ◌⊎◌, inl, inr, ⊎_elim, ℕ, zero, suc, ◌<◌, ◌^◌, Bool, true, false, List, [], ◌∷◌, ◌++◌, length, get_or, Option, Some, None, refl, sym, ap, ◌∙◌, subst, arith, nat_lt, ℤ}
 use Rattle.std.specs.Prelude.{◌&&◌, if◌then◌else◌, slice_get, take, drop, Contains, is_some}
 use Rattle.std.specs.Option.{option_map}

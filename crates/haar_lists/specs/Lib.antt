@@ -1,2 +1,4 @@
 pub mod Lists
+pub mod Drops
 pub mod SmallLists
+pub mod SmallRun

@@ -1,5 +1,6 @@
 //! Laws of the units of a job on lists of events: each function's contract is a law, and its body is empty.
 ghost use Rattle.haar_lists.specs.Lists.{UnitsAreAllowed, SoundUnitsArePlanned, BinsAreHeld, ReceiptsCount, SizesAreRight, ReadsAreHeld, CountsComeAfter};
+ghost use Rattle.haar_lists.specs.Drops.{DropsAreOfUnits, DropsAreWritten, DropsComeOnce, EachIsDropped, DropsStayUnread, DropsStayUncounted};
 
 /// Whatever overflows, a unit of a job does what its label allows.
 pub fn units_are_allowed()
@@ -25,4 +26,16 @@ pub fn reads_and_counts_are_known()
     ensures sizes { SizesAreRight }
     ensures reads { ReadsAreHeld }
     ensures counts { CountsComeAfter }
+{}
+
+/// The versions that a job's plan drops at a fence are those that the plain data of its units drop. Each is written before the
+/// fence, and dropped at one fence, once, which is the first that no command reading it comes after; and only units of commands
+/// before the fence read it or count its entries.
+pub fn drops_are_known()
+    ensures units { DropsAreOfUnits }
+    ensures written { DropsAreWritten }
+    ensures once { DropsComeOnce }
+    ensures all { EachIsDropped }
+    ensures unread { DropsStayUnread }
+    ensures uncounted { DropsStayUncounted }
 {}
