@@ -1,10 +1,10 @@
 -- What each command of a job does, one after another: what its words say, within its limits.
-use Rattle.std.proofs.Common.{◌≡◌, ◌⊎◌, inl, inr, ⊎_elim, ℕ, zero, suc, ◌+◌, ◌<◌, Bool, true, false, ◌&&◌, if◌then◌else◌, List, [], ◌∷◌, ◌++◌, length, take, drop, get_or, map, Option, Some, None, refl, sym, ap, ◌∙◌, subst, arith, append_assoc, append-nil, length-append}
+use Rattle.std.proofs.Common.{◌≡◌, ◌⊎◌, inl, inr, ⊎_elim, ℕ, zero, suc, ◌+◌, ◌<◌, Bool, true, false, if◌then◌else◌, List, [], ◌∷◌, ◌++◌, length, take, drop, get_or, map, Option, Some, None, refl, sym, ap, ◌∙◌, subst, arith, append_assoc, length-append}
 use Rattle.std.specs.Prelude.{slice_get, is_some, IsSomeAnd}
 use Rattle.std.specs.List.{fold}
 use Rattle.std.specs.Option.{option_map, option_map_or, option_and_then, unwrap_or}
 use Rattle.std.proofs.lemmas.Bool.{and_parts, and_from}
-use Rattle.std.proofs.lemmas.List.{get_or-map, length-map, length-take, take-append-drop}
+use Rattle.std.proofs.lemmas.List.{take-append-drop}
 use Rattle.std.proofs.lemmas.Option.{slice_get-map, slice_get-get_or, slice_get_within, get_or_from_slice_get, same_Some}
 use Rattle.tree_model.specs.Commands.{Command}
 use Rattle.tree_model.specs.Nodes.{Form}
@@ -16,17 +16,17 @@ use Rattle.job_data.specs.declared.sources.Sources.TheVariants.{Nothing}
 use Rattle.job_data.specs.declared.step.Step.{Step}
 use Rattle.job_data.specs.declared.tree_form.TreeForm.{TreeForm}
 use Rattle.job_data.specs.declared.tree_form.TreeForm.TheVariants.{Reconstructed, Compressed}
-use Rattle.job_data.specs.Checks.{is_within_limits, is_accepted, are_accepted, may_follow, has_room, has_trees, names_read, is_written, form_after, form_behind, max_commands}
+use Rattle.job_data.specs.Checks.{is_accepted, are_accepted, has_room, has_trees, names_read, is_written, form_after, form_behind}
 use Rattle.job_data.specs.Data.{data_of, form_of}
-use Rattle.job_data.specs.Versions.{version_from, version_behind, sources_of, step_of, plan_from}
-use Rattle.job_data.proofs.CheckLemmas.{accepted_at, are_accepted_at, follows_accepted}
-use Rattle.job_data.proofs.HistoryLemmas.{follows_length}
+use Rattle.job_data.specs.Versions.{version_from, version_behind, sources_of, plan_from}
+use Rattle.job_data.proofs.CheckLemmas.{are_accepted_at, follows_accepted}
 use Rattle.job_data.proofs.WriterLemmas.{is_written_form}
 use Rattle.job_words.specs.NameBytes.{bytes_of}
 use Rattle.haar_units.specs.ModelJobs.{command_at}
 use Rattle.haar_base.specs.declared.operation.Operation.{Operation}
-use Rattle.haar_base.specs.Operations.{is_within, are_within, operation_at}
+use Rattle.haar_base.specs.Operations.{is_within, are_within}
 use Rattle.haar_meaning.specs.PlannedJobs.{IsPlan}
+use Rattle.haar_lists.proofs.DropLemmas.{plan_at}
 use Rattle.haar_app.specs.Planning.{first_of, second_of, code_at, written_at, tree_form, operation_for, reads_in}
 use Rattle.haar_app.specs.KeptPlans.{IsPlanAt, ArePlans}
 
@@ -39,26 +39,6 @@ within_more depth operations more operation all here is = ap (are_within depth) 
     go (x ∷ xs) e =
         let p = and_parts (is_within depth x) (are_within depth xs) e in
         and_from (is_within depth x) (are_within depth (xs ++ operation ∷ [])) p.0 (go xs p.1)
-
--- the command at a place of an accepted list is within its limits, and there are at most 512
-pub record IsAt (cs : List Command) (i : ℕ) (c : Command) : Type 0 where
-  pub below : i < length cs
-  pub at : get_or cs i c ≡ c
-
-pub mapped_at : {A : Type 0} (f : A → Command) (xs : List A) (i : ℕ) (x : A) → i < length xs → x ≡ get_or xs i x → IsAt (map f xs) i (f x)
-mapped_at f xs i x below is = record { below = rw (length-map xs f) below; at = get_or-map f xs i x (f x) below ∙ ap f (sym is) }
-
-pub limits_at : (depth : ℕ) (cs : List Command) (i : ℕ) (c : Command) → are_accepted depth [] cs ≡ true → IsAt cs i c → is_within_limits depth c ≡ true
-limits_at depth cs i c all is = subst (λ d. is_within_limits depth d ≡ true) is.at (accepted_at depth [] cs i c all is.below)
-
-pub few_before : (depth : ℕ) (cs : List Command) (i : ℕ) (c : Command) → are_accepted depth [] cs ≡ true → IsAt cs i c → i < max_commands
-few_before depth cs i c all is =
-    let before = take i cs in
-    let d = get_or cs i c in
-    let follows = follows_accepted depth before d (are_accepted_at depth [] cs i c all is.below) in
-    let few = follows_length before d follows in
-    let below = is.below in
-    omega (arith, few, length-take i cs)
 
 -- the form in which the command of a number writes
 
@@ -147,11 +127,6 @@ plan_is depth cs i (command.Size name) reads all e = sym (ap first_of e)
 plan_is depth cs i command.Fence reads all e = tt
 
 -- the step at a place reads the versions that its names stand for
-
-plan_at : (before cs : List Command) (i : ℕ) (c : Command) → slice_get cs i ≡ Some c → slice_get (plan_from before cs) i ≡ Some (step_of (before ++ take i cs) c)
-plan_at before [] i c e = absurd (cc)
-plan_at before (d ∷ ds) zero c e = ap (λ x. Some (step_of before x)) (same_Some d c e) ∙ ap (λ b. Some (step_of b c)) (sym (append-nil before))
-plan_at before (d ∷ ds) (suc i) c e = plan_at (before ++ d ∷ []) ds i c e ∙ ap (λ b. Some (step_of b c)) (append_assoc before (d ∷ []) (take i ds))
 
 pub has_plan : (depth : ℕ) (codes : List CommandCode) (cs : List Command) (steps : List Step) (i : ℕ) (k : CommandCode) (reads : Sources) (operation : Operation)
     → are_accepted depth [] cs ≡ true → map data_of codes ≡ cs → steps ≡ plan_from [] cs → i < length codes → k ≡ get_or codes i k → reads ≡ reads_in steps i

@@ -210,7 +210,7 @@ impl App for HaarApp {
         self.commands.step(alloc, unit, inputs)
     }
 
-    // None yet: the runtime can't drop.
+    // None until the runtime can drop; those of the job's plan keep the laws (`drops_are_known` of `haar_lists`).
     fn dropped(&self, _fence: u32, _index: u32) -> Option<u32> {
         None
     }

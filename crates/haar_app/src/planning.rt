@@ -3,6 +3,7 @@ ghost use Rattle.std.specs.Prelude.{◌≡◌, ℕ, ◌≤◌, true, length, map
 ghost use Rattle.std.specs.Option.{option_map};
 ghost use Rattle.job_data.specs.Checks.{is_within_limits};
 ghost use Rattle.job_data.specs.Data.{data_of, form_of};
+ghost use Rattle.haar_base.specs.declared.operation.Operation.TheVariants as does;
 ghost use Rattle.haar_base.specs.Operations.{is_within, are_within};
 ghost use Rattle.app_core.specs.Commands.{IsRankCount};
 ghost use Rattle.haar_app.specs.Planning.{first_of, second_of, code_at, written_at, tree_form, operation_for, reads_in};
@@ -11,9 +12,11 @@ ghost use Rattle.haar_app.specs.KeptPlans.{ArePlans};
 use crate::haar_app::HaarApp;
 use app_core::OutOfMemory;
 use haar_base::Operation;
+use haar_node::Func;
 use haar_steps::Commands;
 use job_data::{Command, Job, Sources, Step, TreeForm};
 use job_lang::plan;
+use job_words::Name;
 use owner_map::OwnerMap;
 use std::alloc::Global;
 
@@ -66,6 +69,37 @@ fn form_of(commands: &[Command], version: u32) -> TreeForm
     written_at(commands, version).unwrap_or(TreeForm::Reconstructed)
 }
 
+// The projection of a function.
+fn project(function: Func, level: u8, tolerance: u32) -> Operation
+    ensures { result ≡ does.Project function level tolerance }
+{
+    Operation::Project {
+        function,
+        level,
+        tolerance,
+    }
+}
+
+// The sum of two versions, each times its factor.
+fn add(left_factor: i64, left: u32, right_factor: i64, right: u32) -> Operation
+    ensures { result ≡ does.Add left_factor left right_factor right }
+{
+    Operation::Add {
+        left_factor,
+        left,
+        right_factor,
+        right,
+    }
+}
+
+// The lines of a version, in the form in which it was written.
+fn print(commands: &[Command], source: u32, name: Name) -> Operation
+    ensures { result ≡ does.Print source (tree_form (written_at (map data_of commands.now) source)) name }
+{
+    let form = form_of(commands, source);
+    Operation::Print { source, form, name }
+}
+
 // What a command does, by its step of the plan.
 fn operation_of(commands: &[Command], command: &Command, reads: Sources) -> Operation
     ensures value { result ≡ operation_for command.now reads (tree_form (written_at (map data_of commands.now) (first_of reads))) }
@@ -79,11 +113,7 @@ fn operation_of(commands: &[Command], command: &Command, reads: Sources) -> Oper
             function,
             level,
             tolerance,
-        } => Operation::Project {
-            function,
-            level,
-            tolerance,
-        },
+        } => project(function, level, tolerance),
         Command::Refine { name: _, level } => Operation::Refine {
             level,
             source: first,
@@ -92,17 +122,10 @@ fn operation_of(commands: &[Command], command: &Command, reads: Sources) -> Oper
         Command::Compress { .. } => Operation::Compress { source: first },
         Command::Reconstruct { .. } => Operation::Reconstruct { source: first },
         Command::Add {
-            name: _,
             left_factor,
-            left: _,
             right_factor,
-            right: _,
-        } => Operation::Add {
-            left_factor,
-            left: first,
-            right_factor,
-            right: second,
-        },
+            ..
+        } => add(left_factor, first, right_factor, second),
         Command::Mul { .. } => Operation::Mul {
             left: first,
             right: second,
@@ -111,11 +134,7 @@ fn operation_of(commands: &[Command], command: &Command, reads: Sources) -> Oper
             left: first,
             right: second,
         },
-        Command::Print { name } => Operation::Print {
-            source: first,
-            form: form_of(commands, first),
-            name,
-        },
+        Command::Print { name } => print(commands, first, name),
         Command::Size { .. } => Operation::Size { source: first },
         Command::Fence => Operation::Fence,
     }

@@ -1,9 +1,9 @@
-use Rattle.std.proofs.Common.{◌≡◌, ◌+◌, ◌++◌, ◌∷◌, [], length, map, ap, sym, ◌∙◌, arith, length-append, suc, ℕ, subst}
+use Rattle.std.proofs.Common.{◌∷◌, [], length, map, ap, sym, ◌∙◌, arith, length-append, suc, ℕ, subst}
 use Rattle.job_data.specs.Checks.{are_accepted}
 use Rattle.job_data.specs.Data.{data_of}
-use Rattle.haar_base.specs.Operations.{is_within}
 use Rattle.haar_app.specs.KeptPlans.{IsPlanAt}
-use Rattle.haar_app.proofs.PlanLemmas.{mapped_at, limits_at, few_before, within_more, has_plan, plans_more}
+use Rattle.job_data.proofs.AcceptedLemmas.{mapped_at, limits_at, few_before}
+use Rattle.haar_app.proofs.PlanLemmas.{within_more, has_plan, plans_more}
 use Rattle.haar_app.proofs.planning.operations_of.Goals as goal
 
 pub loop-index-preserved : goal.loop-index-preserved
