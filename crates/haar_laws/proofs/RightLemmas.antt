@@ -1,4 +1,4 @@
--- On right inputs each effect of a unit is right. Crates above cite this.
+-- Lemmas that crates above use: on right inputs each effect of a unit is right.
 use Rattle.std.proofs.Common.{◌≡◌, ℕ, zero, suc, ◌+◌, ◌^◌, ◌≤◌, ◌<◌, Bool, true, false, if◌then◌else◌, List, [], ◌∷◌, ◌++◌, Option, Some, None, refl, sym, ap, ◌∙◌, subst, arith, nat_lt, nat_le, leb-true, length-take}
 use Rattle.std.specs.Prelude.{slice_get, take}
 use Rattle.std.specs.List.{AllByRecursion}
@@ -31,7 +31,7 @@ use Rattle.haar_base.specs.declared.decisions.Combination.{Combination}
 use Rattle.haar_base.specs.declared.decisions.Combination.TheVariants as combinations
 use Rattle.haar_base.specs.Operations.{operation_at, first_source, second_source}
 use Rattle.haar_base.specs.Units.{side_reads, source_of, counted_by}
-use Rattle.haar_meaning.specs.PlannedJobs.{PlannedJob, IsPlannedJob, HasPlan, IsPlan, Standing, standing, version_of}
+use Rattle.haar_meaning.specs.PlannedJobs.{PlannedJob, IsPlannedJob, HasPlan, Standing, standing, version_of}
 use Rattle.haar_meaning.specs.PlannedJobs.Standing.{Before, After}
 use Rattle.haar_meaning.specs.RightValues.{IsRightValue, IsCounted, rank_count}
 use Rattle.haar_meaning.specs.RightCells.{IsRightCell, IsRightSize, IsStored}
@@ -46,7 +46,7 @@ use Rattle.haar_steps.specs.Effects.{HaarEffect, puts, gives, split_effects, vis
 use Rattle.haar_steps.specs.Steps.{step_of, known_by, first_cell, second_cell, pair_of, visit_of, combination_of}
 use Rattle.haar_laws.specs.Laws.{AreRightFor, StepsAreRight}
 use Rattle.haar_steps.proofs.HomeLemmas.{rank_stays}
-use Rattle.haar_laws.proofs.TotalLemmas.{totals_right}
+use Rattle.haar_laws.proofs.TotalLemmas.{is_size, totals_right}
 use Rattle.haar_laws.proofs.UnitLemmas.{key_level, key_place}
 
 module _ (job : PlannedJob) where
@@ -129,22 +129,10 @@ size_earlier cs zero source p = absurd (some_none (p.at))
   where
     some_none : {c : Command} → None ≡ Some c → ⊥
     some_none e = cc
-size_earlier cs (suc n) source p = by_command p.command p.plan
-  where
-    by_command : (c : Command) → IsPlan (take n cs) c (operations.Size source) → source < suc n
-    by_command (Command.Size name) e =
-        let few = length-take n cs in
-        subst (λ (v : ℕ). v < suc n) e (version_below 1 0 (suc n) (take n cs) name (omega arith) (omega (arith, few)))
-    by_command (Command.Project name projection) e = absurd e
-    by_command (Command.Refine name level) e = absurd e
-    by_command (Command.Coarsen name) e = absurd e
-    by_command (Command.Compress name) e = absurd e
-    by_command (Command.Reconstruct name) e = absurd e
-    by_command (Command.Add name a f b g) e = absurd e
-    by_command (Command.Mul name f g) e = absurd e
-    by_command (Command.Inner f g) e = absurd e
-    by_command (Command.Print name) e = absurd e
-    by_command Command.Fence e = absurd e
+size_earlier cs (suc n) source p =
+    let size = is_size (take n cs) source p.command p.plan in
+    let few = length-take n cs in
+    subst (λ (v : ℕ). v < suc n) size.read (version_below 1 0 (suc n) (take n cs) size.name (omega arith) (omega (arith, few)))
 
 not_after : Before ≡ After → ⊥
 not_after e = cc

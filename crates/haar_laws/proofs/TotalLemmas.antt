@@ -25,6 +25,7 @@ use Rattle.haar_base.specs.declared.unit.Unit.TheVariants as unit
 use Rattle.haar_base.specs.declared.value.Value.{Value}
 use Rattle.haar_base.specs.declared.value.Value.TheVariants as value
 use Rattle.haar_base.specs.declared.operation.Operation.TheVariants as operations
+use Rattle.job_data.specs.Versions.{version_behind}
 use Rattle.haar_meaning.specs.PlannedJobs.{PlannedJob, IsPlannedJob, HasPlan, IsPlan, commands_before, Standing, standing, version_of}
 use Rattle.haar_meaning.specs.PlannedJobs.Standing.{Before, At, After}
 use Rattle.haar_meaning.specs.RightValues.{IsRightValue, IsKeyValue, IsValueAt, IsCounted, overflow_value, rank_count}
@@ -85,22 +86,31 @@ ranks_add_up job version some =
     and_true true = refl
     and_true false = refl
 
+-- the command that is planned as a `size`
+pub record IsSize (before : List Command) (source : ℕ) (c : Command) : Type 0 where
+  pub name : List ℕ
+  pub is : c ≡ Command.Size name
+  pub read : version_behind before name ≡ source
+
+pub is_size : (before : List Command) (source : ℕ) (c : Command) → IsPlan before c (operations.Size source) → IsSize before source c
+is_size before source (Command.Size name) e = record { name = name; is = refl; read = e }
+is_size before source (Command.Project name projection) e = absurd e
+is_size before source (Command.Refine name level) e = absurd e
+is_size before source (Command.Coarsen name) e = absurd e
+is_size before source (Command.Compress name) e = absurd e
+is_size before source (Command.Reconstruct name) e = absurd e
+is_size before source (Command.Add name a f b g) e = absurd e
+is_size before source (Command.Mul name f g) e = absurd e
+is_size before source (Command.Inner f g) e = absurd e
+is_size before source (Command.Print name) e = absurd e
+is_size before source Command.Fence e = absurd e
+
 -- a `size` writes no version
 none_written : (job : PlannedJob) (command source : ℕ) → HasPlan job.commands command (operations.Size source) → version_of job command ≡ None
-none_written job command source p = ap (option_and_then (written job.depth (versions_before job.depth job.commands command))) p.at ∙ by_command p.command p.plan
-  where
-    by_command : (c : Command) → IsPlan (commands_before job.commands command) c (operations.Size source) → written job.depth (versions_before job.depth job.commands command) c ≡ None
-    by_command (Command.Size name) e = refl
-    by_command (Command.Project name projection) e = absurd e
-    by_command (Command.Refine name level) e = absurd e
-    by_command (Command.Coarsen name) e = absurd e
-    by_command (Command.Compress name) e = absurd e
-    by_command (Command.Reconstruct name) e = absurd e
-    by_command (Command.Add name a f b g) e = absurd e
-    by_command (Command.Mul name f g) e = absurd e
-    by_command (Command.Inner f g) e = absurd e
-    by_command (Command.Print name) e = absurd e
-    by_command Command.Fence e = absurd e
+none_written job command source p =
+    let size = is_size (commands_before job.commands command) source p.command p.plan in
+    let versions = versions_before job.depth job.commands command in
+    ap (option_and_then (written job.depth versions)) p.at ∙ ap (written job.depth versions) size.is
 
 pub totals_right : TotalsAreRight
 totals_right job command ranks given planned (source, is) inputs =

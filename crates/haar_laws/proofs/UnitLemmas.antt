@@ -1,4 +1,4 @@
--- The units of a job have the form of units. The application of a job, above, cites this.
+-- Lemmas that crates above use: the units of a job have the form of units.
 use Rattle.std.proofs.Common.{◌≡◌, ℕ, ◌^◌, ◌≤◌, ◌<◌, true, ◌&&◌, nat_le, nat_lt, Some, refl, leb-true, ltb-true}
 use Rattle.std.proofs.lemmas.Bool.{and_parts}
 use Rattle.tree_key.specs.Keys.{Key}
