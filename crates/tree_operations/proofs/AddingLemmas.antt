@@ -84,7 +84,7 @@ union_is_shape f g left right depth kept =
     let same : f.depth ≡ g.depth = (kept.first_depth ∙ sym kept.second_depth) in
     union_shape f.depth f.shape g.shape kept.first.sound.tree.shape (subst (λ n. IsShape n g.shape) (sym same) kept.second.sound.tree.shape)
 
--- what is kept of two trees at a key
+-- what is stored of two trees at a key
 pub two_of_them :
     (f g : Tree) (left right : BTreeMap Key ℤ) (depth : ℕ) (k : Key) →
     AreKept f g left right depth →
@@ -100,7 +100,7 @@ two_of_them f g left right depth k kept =
     at-interior : (t : Tree) (k : Key) (m : BTreeMap Key ℤ) → KeepsDifferences t m → cond (t.shape (child k false)) (Some (difference t k)) None ≡ number_at m k
     at-interior t k m keeps = ap (λ b. cond b (Some (difference t k)) None) (sym (interior_is t.depth t.shape k keeps.sound.tree.shape)) ∙ sym (keeps.at k)
 
--- what is kept of two trees at a key where the maps have these numbers
+-- what is stored of two trees at a key where the maps have these numbers
 pub two_known :
     (f g : Tree) (left right : BTreeMap Key ℤ) (depth : ℕ) (k : Key) (l r : Option ℤ) →
     AreKept f g left right depth →

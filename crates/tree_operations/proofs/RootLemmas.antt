@@ -68,7 +68,7 @@ leaf_inside shape k leaf = elim (cases_Bool (shape k)) [ inl inside ↦ inside |
 pub values_from_leaves : (t : Tree) → IsTree t → LeavesHaveValues t root → HasValues t × (overflows t ≡ false)
 values_from_leaves t tree within = leaves_within t tree (λ k leaf. within.at k (shape_under_root t.depth t.shape k tree.shape (leaf_inside t.shape k leaf)) leaf)
 
--- a projection that is kept by its leaves in key order
+-- a projection that is stored by its leaves in key order
 pub keeps_projection : (depth : ℕ) (p : Projection) (leaves : BTreeMap Key ℤ) → depth ≤ max_depth → fits depth p.function ≡ true → leaves.entries ≡ leaf_sums (projected depth p) → IsReconstructed (projected depth p) depth leaves
 keeps_projection depth p leaves deep fit entries = record {
   keeps = record {

@@ -1,4 +1,4 @@
--- The number of a tree's keys, from what is kept of it.
+-- The number of a tree's keys, from what is stored of it.
 use Rattle.std.proofs.Common.{◌≡◌, ℕ, ◌+◌, ◌*◌, length, ap, sym, ◌∙◌, ℤ}
 use Rattle.std.specs.BTreeMap.{BTreeMap, IsOrdered}
 use Rattle.std.proofs.lemmas.List.{length-map}

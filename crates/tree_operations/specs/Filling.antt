@@ -1,4 +1,4 @@
--- How a map comes to have the numbers of a tree: box by box.
+-- How a map gets the numbers of a tree: box by box.
 use Rattle.std.specs.Prelude.{◌≡◌, ◌-◌, ◌/◌, ◌^◌, Bool, ◌&&◌, ◌==◌, nat_le, Option, Some, None, ℤ, if◌then◌else◌}
 use Rattle.std.specs.BTreeMap.{BTreeMap}
 use Rattle.tree_key.specs.Keys.{Key}

@@ -1,4 +1,4 @@
--- What the evaluator keeps of a version of a tree.
+-- What the evaluator stores of a version of a tree.
 use Rattle.std.specs.Prelude.{◌≡◌, ℕ, ⊤, Option, Some, None, ℤ}
 use Rattle.std.specs.BTreeMap.{BTreeMap}
 use Rattle.tree_key.specs.Keys.{Key}
@@ -17,14 +17,14 @@ pub record IsReconstructed (t : Tree) (depth : ℕ) (leaves : BTreeMap Key ℤ) 
   pub keeps : KeepsLeaves t leaves
   pub deep : t.depth ≡ depth
 
--- a tree of this depth is kept in this form
+-- a tree of this depth is stored in this form
 abbrev pub KeepsForm : ℕ → Form → Tree → StoredTree → Type 0
 KeepsForm depth Reconstructed t (KeptLeaves leaves) = IsReconstructed t depth leaves
 KeepsForm depth Reconstructed t (KeptDifferences compressed) = ⊥
 KeepsForm depth Compressed t (KeptLeaves leaves) = ⊥
 KeepsForm depth Compressed t (KeptDifferences compressed) = IsCompressed t depth compressed.sum compressed.differences
 
--- the version that there is is kept, or nothing is where there is none
+-- the version that there is is stored, or nothing where there is none
 abbrev pub Matches : ℕ → Option StoredTree → Option Version → Type 0
 Matches depth None None = ⊤
 Matches depth None (Some version) = ⊥

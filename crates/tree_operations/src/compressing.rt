@@ -9,7 +9,7 @@ use crate::numbers::{Numbers, number_at, set_number};
 use haar_node::join;
 use tree_key::{Key, OutOfMemory};
 
-// Sets the differences at a key and below it, and answers the sum over its box.
+// Sets the differences at a key and below it, and returns the sum over its box.
 pub fn compress_below(
     leaves: &Numbers,
     key: Key,

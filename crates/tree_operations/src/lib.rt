@@ -1,9 +1,9 @@
 //! The operations of commands on whole trees.
 //!
-//! They work on what Haar trees keep: in the reconstructed form the sum over the box of each leaf ([`Numbers`]), in the
-//! compressed form the sum over all cells and the difference between the halves of each key that has children
-//! ([`Compressed`]). Each is a map from keys to numbers, and each operation visits the keys of its trees once, from the
-//! root down, as MADNESS's operations on function trees do.
+//! They work on what is stored of Haar trees: in the reconstructed form the sum over the box of each leaf
+//! ([`Numbers`]), in the compressed form the sum over all cells and the difference between the halves of each key that has
+//! children ([`Compressed`]). Each is a map from keys to numbers, and each operation visits the keys of its trees once,
+//! from the root down, as MADNESS's operations on function trees do.
 #![tactic(auto)]
 
 mod adding;

@@ -1,4 +1,4 @@
-//! Numbers at keys: what is kept of a tree.
+//! Numbers at keys: what is stored of a tree.
 ghost use Rattle.std.specs.Prelude.{◌≡◌, Some, OnOk, if◌then◌else◌};
 ghost use Rattle.tree_key.specs.Keys.{Key as KeyData};
 ghost use Rattle.tree_operations.specs.Numbers.{number_at, same_key};

@@ -1,4 +1,4 @@
-//! The operations on whole trees: each makes what is kept of a tree from what is kept of others.
+//! The operations on whole trees: each makes what is stored of a tree from what is stored of others.
 ghost use Rattle.std.specs.Prelude.{◌≡◌, ◌^◌, ◌≤◌, IfOk, Err, true, ℕ};
 ghost use Rattle.std.specs.Int.RustNames.{unsigned_abs};
 ghost use Rattle.tree_model.specs.Functions.{fits, max_depth};

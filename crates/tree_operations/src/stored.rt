@@ -1,4 +1,4 @@
-//! What the evaluator keeps of a tree.
+//! What the evaluator stores of a tree.
 
 use crate::numbers::Numbers;
 
