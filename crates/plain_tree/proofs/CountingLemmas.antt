@@ -1,4 +1,4 @@
--- What is counted of the trees that are kept, and the keys that commands go over.
+-- What is counted of the stored trees, and the keys that commands go over.
 use Rattle.std.proofs.Common.{◌≡◌, ℕ, Bool, true, false, Option, Some, None, refl, sym, ℤ}
 use Rattle.std.proofs.lemmas.Bool.{true≢false}
 use Rattle.std.specs.BTreeMap.{BTreeMap}
@@ -26,7 +26,7 @@ leaf_sums t m keeps = record { tree = keeps.sound.tree; deep = keeps.sound.depth
 pub differences : (t : Tree) (m : BTreeMap Key ℤ) → KeepsDifferences t m → HasDifferences t m
 differences t m keeps = record { tree = keeps.sound.tree; deep = keeps.sound.depth; at = keeps.at }
 
--- the version of a tree that is kept
+-- the version of a stored tree
 pub record IsMatched (depth : ℕ) (kept : StoredTree) (o : Option Version) : Type 0 where
   pub version : Version
   pub is : o ≡ Some version
@@ -54,7 +54,7 @@ made_total :
 made_total d depth form made None = refl
 made_total d depth form made (Some x) = refl
 
--- a command that goes over the keys of the tree that it writes, and erases none
+-- a command that visits the keys of the tree that it writes, and erases none
 abbrev pub is_over_written : Command → Bool
 is_over_written (Project name projection) = true
 is_over_written (Refine name level) = true
@@ -80,7 +80,7 @@ written_total d depth versions (Print name) is = absurd (true≢false (sym is))
 written_total d depth versions (Size name) is = absurd (true≢false (sym is))
 written_total d depth versions Fence is = absurd (true≢false (sym is))
 
--- a tree that is read and kept by its leaves, and the coarsened tree that is kept of it
+-- a tree that is read and stored by its leaves, and the coarsened tree that is stored of it
 pub record AreCoarsened (depth : ℕ) (leaves : BTreeMap Key ℤ) (coarser : StoredTree) (o : Option Tree) : Type 0 where
   pub tree : Tree
   pub is : o ≡ Some tree

@@ -7,7 +7,7 @@ use Rattle.tree_operations.specs.InnerProducts.{IsCompressed}
 use Rattle.tree_operations.specs.StoredTrees.{IsReconstructed, HasLeaves, HasDifferences, HaveDifferences}
 use Rattle.tree_operations.specs.declared.stored.Compressed.{Compressed as CompressedTree}
 
--- the tree that is read, and is kept by its leaves
+-- the tree that is read, and is stored by its leaves
 pub record IsReadFrom (depth : ℕ) (leaves : BTreeMap Key ℤ) (read : Option Tree) : Type 0 where
   pub tree : Tree
   pub is : read ≡ Some tree
@@ -17,7 +17,7 @@ pub leaves_read : (depth : ℕ) (leaves : BTreeMap Key ℤ) (read : Option Tree)
 leaves_read depth leaves None has = absurd has
 leaves_read depth leaves (Some t) has = record { tree = t; is = refl; keeps = has }
 
--- the tree that is read, and is kept by its differences
+-- the tree that is read, and is stored by its differences
 pub record IsReadCompressed (depth : ℕ) (compressed : CompressedTree) (read : Option Tree) : Type 0 where
   pub tree : Tree
   pub is : read ≡ Some tree
@@ -27,7 +27,7 @@ pub differences_read : (depth : ℕ) (compressed : CompressedTree) (read : Optio
 differences_read depth compressed None has = absurd has
 differences_read depth compressed (Some t) has = record { tree = t; is = refl; keeps = has }
 
--- two trees that are read, and are kept by their differences
+-- two trees that are read, and are stored by their differences
 pub record AreReadCompressed (depth : ℕ) (left right : CompressedTree) (read : Option (Tree × Tree)) : Type 0 where
   pub first : Tree
   pub second : Tree

@@ -1,4 +1,4 @@
--- What is printed of a tree, from what is kept of it.
+-- What is printed of a tree, from what is stored of it.
 use Rattle.std.proofs.Common.{◌≡◌, ℕ, List, ◌++◌, ◌∙◌, ap, ℤ}
 use Rattle.std.specs.Prelude.{codes}
 use Rattle.std.specs.Fmt.{signed_decimal}

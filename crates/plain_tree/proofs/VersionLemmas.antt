@@ -44,7 +44,7 @@ after_put depth versions c old new name kept has is named put = record {
   at = λ other. rw (put other, writes_name c name other named) (replaced (bytes_eq other name) depth (written depth versions c) (versions other) kept (kept_at old other) is (has.at other));
 }
 
--- a tree that is kept doesn't overflow
+-- a stored tree doesn't overflow
 kept_within : (depth : ℕ) (form : Form) (t : Tree) (kept : StoredTree) → KeepsForm depth form t kept → overflows t ≡ false
 kept_within depth Reconstructed t (KeptLeaves leaves) keeps = values_dont_overflow t keeps.keeps.sound.values
 kept_within depth Reconstructed t (KeptDifferences tree) keeps = absurd keeps

@@ -1,10 +1,10 @@
--- The lines of a tree, from what is kept of it.
+-- The lines of a tree, from what is stored of it.
 use Rattle.std.specs.Prelude.{ℕ, List, ◌++◌, codes, decimal, ℤ}
 use Rattle.std.specs.Fmt.{signed_decimal}
 use Rattle.std.specs.List.{flat_map}
 use Rattle.tree_key.specs.Keys.{Key}
 
--- a key's line: its level, its place on the level, and the number kept there
+-- a key's line: its level, its place on the level, and the number stored there
 abbrev pub number_line : Key × ℤ → List ℕ
 number_line e = decimal e.0.level ++ codes " " ++ decimal e.0.at ++ codes " " ++ signed_decimal e.1 ++ codes "\n"
 

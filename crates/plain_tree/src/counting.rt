@@ -1,4 +1,4 @@
-//! What a command comes to, in messages and tasks, counted from the trees that are kept.
+//! What a command comes to, in messages and tasks, counted from the stored trees.
 ghost use Rattle.std.specs.Prelude.{◌≡◌, ◌≤◌, ◌^◌, ℕ, Option};
 ghost use Rattle.std.specs.Option.{option_map, option_map_or};
 ghost use Rattle.tree_model.specs.Commands.Command.{Coarsen, Inner, Print};
@@ -26,7 +26,7 @@ fn count_of(distribution: Distribution, tree: &StoredTree) -> ShapeCount
     }
 }
 
-// What a command comes to that goes over the keys of a tree; nothing where there is no tree.
+// What a command comes to that visits the keys of a tree; nothing where there is no tree.
 fn visits_total(distribution: Distribution, tree: Option<&StoredTree>) -> Total
     requires { (depth : ℕ) × (version : Option Version) × Matches depth (option_map (λ tree. tree.now) tree) version }
     ensures total { (depth : ℕ) (version : Option Version) → Matches depth (option_map (λ tree. tree.now) tree.entry) version →

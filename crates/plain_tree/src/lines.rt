@@ -37,7 +37,7 @@ fn add_wide(text: &mut Text, number: i128) -> Result<(), OutOfMemory>
     text.add(buffer.format(number).as_bytes())
 }
 
-// Adds the line of a key: its level, its place, and the number kept there.
+// Adds the line of a key: its level, its place, and the number stored there.
 fn add_number(text: &mut Text, key: Key, number: i64) -> Result<(), OutOfMemory>
     ensures { OnOk result (text.new ≡ text.old ++ number_line (key, number)) }
 {
@@ -100,7 +100,7 @@ fn add_compressed(text: &mut Text, name: &[u8], tree: &Compressed) -> Result<(),
     add_numbers(text, &tree.differences)
 }
 
-/// Adds what `print` writes of a tree in the form that it is kept in.
+/// Adds what `print` writes of a tree in the form that it is stored in.
 pub fn add_tree(text: &mut Text, name: &[u8], kept: &StoredTree) -> Result<(), OutOfMemory>
     ensures { OnOk result ((depth : ℕ) (version : Version) →
         KeepsForm depth version.form version.tree kept.now →
