@@ -220,7 +220,7 @@ module _ (form : Form) (settings : List Setting) (all : list_all (is_allowed for
   abbrev all_rows : List Row
   all_rows = with_flags (map (row form) settings) form.flags
 
-  -- the value of an option, or the word that stands alone
+  -- the value of an option, or the positional argument
   pub value_is : (name : Word) → is_member form.flags name ≡ false → first_of name all_rows ≡ value_of form name settings
   value_is name no_flag = go (find (λ s. bytes_eq (name_of form s) name) settings) refl
     where
@@ -234,7 +234,7 @@ module _ (form : Form) (settings : List Setting) (all : list_all (is_allowed for
           ap (option_and_then (λ (r : Row). slice_get r.values 0)) (found_stays name (row form s) form.flags (map (row form) settings) here)
           ∙ first_is form name s no_flag found.0 found.1 ∙ sym (ap (option_map text_of) e)
 
-  -- a flag is told as it is
+  -- the value of a flag says whether the flag is there
   pub flag_is : is_proper form ≡ true → (name : Word) → is_member form.flags name ≡ true → one_of name all_rows ≡ Some (flag_text (has form name settings))
   flag_is proper name is_flag = go (find (λ s. bytes_eq (name_of form s) name) settings) refl
     where

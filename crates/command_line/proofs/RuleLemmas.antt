@@ -159,7 +159,7 @@ pub word_by_id : (form : Form) (name : Word) → is_member form.options name ≡
     → arg_by_id (rules_built form) name ≡ Some (word_built name)
 word_by_id form name option flag is = by_id form name ∙ rw (option, flag, is, (bytes_eq-Decides name name).1 refl) refl
 
--- the first word that stands alone has an argument, where the form has one, and no later word has
+-- the first word that is no option has an argument, where the form has one, and no later word has
 pub first_word : (form : Form) → arg_by_index (rules_built form) 1 ≡ option_map word_built form.word
 first_word form = find_none _ option_built (λ n. refl) form.options _ ∙ (find_none _ flag_built (λ n. refl) form.flags _ ∙ last form.word)
   where

@@ -100,7 +100,7 @@ flag_use n rows = use_is (has_row n rows)
 word_use : (n v : Word) (rows : List Row) → none (use_fault false (word_built n) (v ∷ []) rows) ≡ not (has_row n rows)
 word_use n v rows = use_is (has_row n rows)
 
--- ---- where the walk stands between two words
+-- ---- where the walk is between two words
 
 abbrev held : List Row → Option (Text × List Text) → Held
 held rows pending = record { rows = rows; pending = pending; skip = 0 }
@@ -180,7 +180,7 @@ module _ (name : Word) (form : Form) (rows : List Row) (pending : Option (Text �
   unfolding walked
   option_walked n is found = rw (no_end, is, found) refl
 
-  -- a word that stands alone
+  -- a positional argument
   stray_turn : long_of x ≡ None → short_of x ≡ None → arg_by_index (rules_built form) position ≡ None → none turn ≡ false
   stray_turn is short found = rw (no_end, is, short, found) refl
 
@@ -332,7 +332,7 @@ settled_is form proper seen (Some s) is new =
     let rows = map (row form) seen in
     ap (λ o. used_by_id o (values_of s) rows) u.found ∙ u.uses rows ∙ added form seen s (not-true _ new)
 
--- the place of the next word that stands alone: the second place is after such a word
+-- the place of the next positional argument: the second place is after such a word
 abbrev pub IsAt : Form → ℕ → List Setting → Type 0
 IsAt form position seen = (position ≡ 1) ⊎ ((position ≡ 2) × (has form (unwrap_or form.word []) seen ≡ true))
 
@@ -441,7 +441,7 @@ module _ (name : Word) (form : Form) (proper : is_proper form ≡ true) (x : Tex
       ∙ ap (λ rows. standing rows (Some (n, [])) (option n) position) (settled_is form proper seen p pending (and_parts _ _ e).0) in
       combined name form w _ x xs (is_new form seen p) true _ _ _ _ passes there rest.0 rest.1 refl refl
 
-  -- a word that stands alone
+  -- a positional argument
   word_first : long_of x ≡ None → short_of x ≡ None → AllWalk name form xs → Walks name form seen p position (x ∷ xs) (Plain x ∷ settings_of form xs)
   word_first is short more = at_place place
     where

@@ -6,7 +6,7 @@ use Rattle.clap.specs.declared.builder.action.ArgAction.TheVariants.{Set, SetTru
 use Rattle.clap.specs.declared.parser.matches.ArgMatches.{ArgMatches}
 use Rattle.command_line.specs.Settings.{Word, Form, Setting, read_settings, are_different, is_member, value_of, has}
 
--- the arguments: an option, a flag, and a word that stands alone
+-- the arguments: an option, a flag, and a positional argument
 abbrev pub option_rule : Word → Rule
 option_rule name = record (new_rule name) { long = Some name; action = Some Set }
 
@@ -40,7 +40,7 @@ words_of (Some name) = name ∷ []
 abbrev pub is_proper : Form → Bool
 is_proper form = are_different (form.options ++ (form.flags ++ words_of form.word))
 
--- how a flag is told
+-- the value of a flag, as a text
 abbrev pub flag_text : Bool → Word
 flag_text b = if b then codes "true" else codes "false"
 

@@ -1,4 +1,4 @@
--- How the words of a command line are read: options with their values, flags, and words that stand alone.
+-- How the words of a command line are read: options with their values, flags, and positional arguments.
 use Rattle.std.specs.Prelude.{ℕ, Bool, true, false, ◌&&◌, ◌||◌, not, List, [], ◌∷◌, map, Option, Some, None, is_some, codes, find, if◌then◌else◌}
 use Rattle.std.specs.List.{list_all, list_any}
 use Rattle.std.specs.Option.{option_map, option_map_or, unwrap_or}
@@ -9,7 +9,7 @@ use Rattle.clap.specs.Lexer.{long_of, is_short_word}
 abbrev pub Word : Type 0
 Word = List ℕ
 
--- an option with its value: `--name=value`, or `--name value` in two words; a flag: `--name`; a word that stands alone; and a
+-- an option with its value: `--name=value`, or `--name value` in two words; a flag: `--name`; a positional argument; and a
 -- word that no command has: `--`, or one that begins with a single hyphen and goes on
 pub data Setting : Type 0 where
   Value : (name value : Word) → Setting
@@ -33,14 +33,14 @@ setting_of word = option_map_or (λ p. named p.0 p.1) (long_of word) (unnamed wo
 abbrev pub is_member : List Word → Word → Bool
 is_member names name = list_any (λ n. bytes_eq n name) names
 
--- an option takes the word after it as its value, where that one stands alone
+-- an option takes the word after it as its value, where that one is a positional argument
 abbrev pub joined : List Word → List Setting → List Setting
 joined options [] = []
 joined options (Flag name ∷ Plain word ∷ rest) =
     if is_member options name then Value name word ∷ joined options rest else Flag name ∷ Plain word ∷ joined options rest
 joined options (s ∷ rest) = s ∷ joined options rest
 
--- what a command takes: options, which have values; flags; and one word that stands alone, by the name that it goes by
+-- what a command takes: options, which have values; flags; and one positional argument, by the name that it goes by
 pub record Form : Type 0 where
   pub options : List Word
   pub flags : List Word
@@ -75,14 +75,14 @@ are_taken form settings = list_all (is_allowed form) settings && are_different (
 abbrev pub read_settings : Form → List Word → Option (List Setting)
 read_settings form words = if are_taken form (settings_of form words) then Some (settings_of form words) else None
 
--- the value of an option, or the word that stands alone
+-- the value of an option, or the positional argument
 abbrev pub text_of : Setting → Word
 text_of (Value name value) = value
 text_of (Flag name) = []
 text_of (Plain word) = word
 text_of (Unknown word) = []
 
--- what goes by this name: the value of an option, or the word that stands alone; and whether a flag is there
+-- what goes by this name: the value of an option, or the positional argument; and whether a flag is there
 abbrev pub value_of : Form → Word → List Setting → Option Word
 value_of form name settings = option_map text_of (find (λ s. bytes_eq (name_of form s) name) settings)
 

@@ -4,7 +4,7 @@ ghost use Rattle.owner_map.specs.declared.map.OwnerMap.TheVariants.{Block, Sprea
 ghost use Rattle.command_line.specs.Requests.{request_of};
 ghost use Rattle.command_line.specs.declared.request.Request.TheVariants.{Run, Serial, Check, BigJob};
 
-/// `run` and `check` stand alone.
+/// `run` and `check` without options.
 fn commands_without_options()
     ensures run { request_of (codes "run" ∷ []) ≡ Some Run }
     ensures check { request_of (codes "check" ∷ []) ≡ Some Check }
@@ -13,7 +13,7 @@ fn commands_without_options()
     ensures more { request_of (codes "run" ∷ codes "--ranks=2" ∷ []) ≡ None }
 {}
 
-/// Options stand in any order, with their values in the same word or in the next one.
+/// Options come in any order, with their values in the same word or in the next one.
 fn options_of_serial()
     ensures none { request_of (codes "serial" ∷ []) ≡ Some (Serial 1 Block false) }
     ensures next { request_of (codes "serial" ∷ codes "--ranks" ∷ codes "16" ∷ []) ≡ Some (Serial 16 Block false) }
@@ -50,7 +50,7 @@ fn words_that_are_refused()
     ensures word { request_of (codes "serial" ∷ codes "7" ∷ []) ≡ None }
 {}
 
-/// The number of `big` stands before or after its flag, which it needs.
+/// The number of `big` comes before or after its flag, which it needs.
 fn numbers_of_big()
     ensures before { request_of (codes "big" ∷ codes "7" ∷ codes "--job" ∷ []) ≡ Some (BigJob 7) }
     ensures after { request_of (codes "big" ∷ codes "--job" ∷ codes "4294967295" ∷ []) ≡ Some (BigJob 4294967295) }
@@ -60,7 +60,7 @@ fn numbers_of_big()
     ensures no_flag { request_of (codes "big" ∷ codes "7" ∷ []) ≡ None }
 {}
 
-/// The options of a run may stand with `--job`, where their values are of the right kind.
+/// The options of a run may come with `--job`, where their values are of the right kind.
 fn options_of_big()
     ensures all { request_of (codes "big" ∷ codes "--ranks" ∷ codes "15" ∷ codes "7" ∷ codes "--job" ∷ codes "--workers=4" ∷ codes "--map=level" ∷ codes "--receipts" ∷ [])
         ≡ Some (BigJob 7) }

@@ -193,8 +193,8 @@ fn command_request(
 /// What the words after the program's name ask for.
 ///
 /// None exactly where they are in none of the forms `run`, `serial [--ranks N] [--map M] [--receipts]`, `check` and
-/// `big N [--ranks N] [--workers N] [--map M] [--receipts] --job`. Options stand in any order, each at most once, as
-/// `--name value` or `--name=value`; a flag has no value. N of `big` stands before, between or after its options. A number is
+/// `big N [--ranks N] [--workers N] [--map M] [--receipts] --job`. Options come in any order, each at most once, as
+/// `--name value` or `--name=value`; a flag has no value. N of `big` comes before, between or after its options. A number is
 /// 1 to 10 decimal digits: N of `--ranks` is 1 to 16, N of `--workers` is at most 4, and N of `big` is at most 4,294,967,295.
 /// M is `block`, `spread` or `level`. `OutOfMemory` where there is no memory left.
 pub fn request_of(alloc: Global, words: &[String]) -> Result<Option<Request>, AllocError>
