@@ -1,4 +1,4 @@
--- The reader goes over the lines, and tells the first that has a fault.
+-- The reader goes over the lines, and returns the first that has a fault.
 use Rattle.std.proofs.Common.{◌≡◌, ℕ, zero, suc, ◌+◌, ◌-◌, ◌<◌, Bool, true, false, List, [], ◌∷◌, ◌++◌, take, drop, refl, sym, ◌∙◌, ap, subst, append_assoc, append-nil, arith, inl, inr}
 use Rattle.std.specs.Prelude.{◌==◌, not, Option, Some, None, is_none, Result, Ok, Err, cond, if◌then◌else◌}
 use Rattle.std.specs.List.{flat_map, list_all}

@@ -25,7 +25,7 @@ header_at lines = prefix_len (λ line. is_passed_over (words line)) lines
 abbrev pub header_kind : List ℕ → Option FaultKind
 header_kind line = if has_foreign_byte line then Some ForeignByte else if is_none (header_of (words line)) then Some NoHeader else None
 
--- the depth that the header tells, or 0
+-- the depth in the header, or 0
 abbrev pub depth_told : List (List ℕ) → ℕ
 depth_told lines = option_map_or (λ depth. depth) (header_of (words (line_at lines (header_at lines)))) 0
 

@@ -1,4 +1,4 @@
--- Slices of a line as the words that they are, and what readers of them answer.
+-- Slices of a line as the words that they are, and what readers of them return.
 use Rattle.std.specs.Prelude.{ℕ, List, map, Option}
 use Rattle.std.specs.Borrow.{Bor}
 use Rattle.std.specs.Option.{option_map}

@@ -15,7 +15,7 @@ use job_data::{FaultKind, Job};
 use job_words::{has_allowed_bytes, is_passed_over, next_line, words_of};
 use std::alloc::Global;
 
-/// What the header tells, and the text after it.
+/// What the header says, and the text after it.
 #[derive(Clone, Copy)]
 struct Header<'a> {
     depth: u8,
