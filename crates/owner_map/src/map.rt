@@ -11,7 +11,7 @@ pub enum OwnerMap {
     /// Each rank has a block of neighbours on each level, from left to right.
     Block,
 
-    /// Neighbours, children and parents are on different ranks, where there are enough.
+    /// Neighbours on a level are three ranks apart, and the first keys of two levels seven, round and round.
     Spread,
 
     /// As `Spread`, but the keys of levels 4, 6, 8 and so on belong to their parents' owners: in outline after
