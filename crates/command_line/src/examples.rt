@@ -32,11 +32,13 @@ fn numbers_of_ranks()
     ensures empty { request_of (codes "serial" ∷ codes "--ranks=" ∷ []) ≡ None }
 {}
 
-/// An option comes at most once, with a value; a flag comes at most once, without one.
+/// An option comes at most once, with a value, which no word with a hyphen is; a flag comes at most once, without one.
 fn options_that_are_refused()
     ensures twice { request_of (codes "serial" ∷ codes "--ranks" ∷ codes "2" ∷ codes "--ranks=2" ∷ []) ≡ None }
     ensures flag_twice { request_of (codes "serial" ∷ codes "--receipts" ∷ codes "--receipts" ∷ []) ≡ None }
     ensures no_value { request_of (codes "serial" ∷ codes "--map" ∷ []) ≡ None }
+    ensures option_next { request_of (codes "serial" ∷ codes "--ranks" ∷ codes "--receipts" ∷ []) ≡ None }
+    ensures hyphen_next { request_of (codes "serial" ∷ codes "--ranks" ∷ codes "-2" ∷ []) ≡ None }
     ensures flag_value { request_of (codes "serial" ∷ codes "--receipts=true" ∷ []) ≡ None }
     ensures no_map { request_of (codes "serial" ∷ codes "--map=Block" ∷ []) ≡ None }
 {}
