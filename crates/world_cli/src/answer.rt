@@ -7,9 +7,10 @@ use tree_key::{OutOfMemory, Text};
 /// A status, and the text that goes with it.
 #[derive(Drop)]
 pub struct Answer {
-    /// `Done` for a job, `Overflow` for one with a command that overflows, `JobFault` for what isn't a job.
+    /// `Done` for a job, `Overflow` for one with a command that overflows, `JobFault` for what isn't a job, or can't be run
+    /// yet.
     pub status: Status,
-    /// What is to be written: the text of the job, or the line of its fault.
+    /// What is to be written: the text of the job, or the line that says why there is none.
     pub text: Text,
 }
 

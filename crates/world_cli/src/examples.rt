@@ -1,8 +1,8 @@
 //! The answers to small inputs, computed from the definitions. What is expected was worked out by hand.
 ghost use Rattle.std.specs.Prelude.{◌≡◌, [], codes, false, true};
 ghost use Rattle.owner_map.specs.declared.map.OwnerMap.TheVariants.{Block, Spread};
-ghost use Rattle.command_line.specs.declared.request.Request.TheVariants.{Run, Serial, Check};
-ghost use Rattle.world_cli.specs.Answers.{answer_to};
+ghost use Rattle.command_line.specs.declared.request.Request.TheVariants.{Run, Serial, Check, BigJob};
+ghost use Rattle.world_cli.specs.Answers.{answer_to, has_input};
 
 /// Without any line the header is missing on line 1.
 fn empty_input()
@@ -50,4 +50,10 @@ fn commands_that_cannot_be_run_yet()
         ≡ record { status = 2; text = codes "fault command 3 unbuilt\n" } }
     ensures serial { answer_to (Serial 1 Block false) (codes "job 1 depth 0\nproject f const 5 level 0 tol 0\nfence\nsize f\ncoarsen f\n")
         ≡ record { status = 0; text = codes "size f 1\n" } }
+{}
+
+/// A generated job needs no input, and what one says plays no part.
+fn generated_jobs_need_no_input()
+    ensures input { has_input (BigJob 7) ≡ false }
+    ensures answer { answer_to (BigJob 7) (codes "no job") ≡ record { status = 0; text = codes "job 1 depth 12\nproject f hash 7 1000 level 4 tol 500\nproject g ramp 7 1 level 2 tol 16\nproject h box 7 4096 7 level 6 tol 0\nfence\ncompress f\ncompress g\ncompress h\nadd p = 2 f + -1 g\ninner f g\ninner p h\nfence\nreconstruct p\nreconstruct h\nmul q = p * h\nfence\ncoarsen q\nfence\nsize q\n" } }
 {}

@@ -81,13 +81,18 @@ fn receipts_of_ranks_and_maps(rt: HostRuntime) -> Result<(), Fail> {
     Ok(())
 }
 
-// A fault and an overflow are answered as without receipts, but for the fences before the overflow.
+// A fault is answered the same by each word, and an overflow as without receipts but for the fences before it.
 #[test]
 fn receipts_of_jobs_that_end_early(rt: HostRuntime) -> Result<(), Fail> {
     let words = ["serial", "--ranks=2", "--receipts"];
-    let fault = run_over_parts(rt.alloc(), &words, &[COARSENED_LINES, b"size f\n"])?;
-    assert_eq!(rt; fault.status, 2);
-    assert!(rt; fault.written.as_slice() == b"fault line 5 F9 size before a fence\n".as_slice());
+    let forms: [&[&str]; 3] = [&words, &["run"], &["check"]];
+    for form in forms {
+        let fault = run_over_parts(rt.alloc(), form, &[COARSENED_LINES, b"size f\n"])?;
+        assert_eq!(rt; fault.status, 2);
+        assert!(rt;
+            fault.written.as_slice() == b"fault line 5 F9 size before a fence\n".as_slice()
+        );
+    }
     let large =
         b"job 1 depth 0\nproject f const 16777216 level 0 tol 0\nfence\nmul f = f * f\nfence\n";
     let overflow = run_over_memory(rt.alloc(), &words, large)?;

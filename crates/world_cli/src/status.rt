@@ -7,7 +7,7 @@ pub enum Status {
     Done = 0,
     /// The words are in none of the listed forms.
     Usage = 1,
-    /// The input isn't a job, or is too long.
+    /// The input isn't a job, or is too long, or has a command that can't be run yet.
     JobFault = 2,
     /// A command of the job overflows; the text before it was written, and a line that names it.
     Overflow = 3,
