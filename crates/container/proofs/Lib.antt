@@ -3,3 +3,4 @@ pub mod LookUpLemmas
 pub mod MapLemmas
 pub mod RightLemmas
 pub mod VersionLemmas
+pub mod WaitLemmas

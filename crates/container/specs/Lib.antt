@@ -4,3 +4,4 @@ pub mod Names
 pub mod Refusals
 pub mod RightBins
 pub mod VersionEntries
+pub mod WaitLog

@@ -8,8 +8,9 @@ ghost use Rattle.container.specs.BinState.{AreMissing};
 
 use crate::OutOfMemory;
 use crate::entries::Entries;
-use crate::look_ups::{LookUp, leave_others, waited, waiting_for};
+use crate::look_ups::LookUp;
 use crate::refusals::{InsertError, StillWaited};
+use crate::wait_list::WaitList;
 use app_core::CellName;
 use future_cell::{Callback, Callbacks};
 use std::alloc::Global;
@@ -20,7 +21,7 @@ use std::marker::Model;
 #[derive(Drop)]
 pub struct BinState<C: Copy> {
     entries: Entries<C>,
-    waiting: Vec<LookUp>,
+    waiting: WaitList,
     alloc: Global,
 }
 
@@ -34,9 +35,9 @@ impl<C: Copy> Model for BinState<C> {
 
     ghost coded = { bin_code (fin.code name_code C.code) look_ups.the_row.coded };
 
-    ghost view = { λ b. record { entries = b.entries; waiting = b.waiting.items } };
+    ghost view = { λ b. record { entries = b.entries; waiting = b.waiting } };
 
-    ghost invariant = { λ b. AreMissing b.entries b.waiting.items };
+    ghost invariant = { λ b. AreMissing b.entries b.waiting };
 }
 
 impl<C: Copy> BinState<C> {
@@ -47,7 +48,7 @@ impl<C: Copy> BinState<C> {
     {
         BinState {
             entries: Entries::new(alloc),
-            waiting: Vec::new(alloc),
+            waiting: WaitList::new(alloc),
             alloc,
         }
     }
@@ -75,9 +76,7 @@ impl<C: Copy> BinState<C> {
         if found.is_some() {
             return Ok(found);
         }
-        if self.waiting.push(LookUp { name, callback }).is_err() {
-            return Err(OutOfMemory);
-        }
+        self.waiting.push(LookUp { name, callback })?;
         Ok(None)
     }
 
@@ -111,14 +110,14 @@ impl<C: Copy> BinState<C> {
         if self.entries.find(name).is_some() {
             return Err(InsertError::Present(cell));
         }
-        let Ok(callbacks) = waiting_for(self.alloc, &self.waiting, name) else {
+        let Ok(callbacks) = self.waiting.callbacks_of(name) else {
             return Err(InsertError::OutOfMemory(cell));
         };
         self.entries.insert(name, cell)?;
         if callbacks.is_empty() {
             return Ok(callbacks);
         }
-        leave_others(&mut self.waiting, name);
+        self.waiting.leave_others(name);
         Ok(callbacks)
     }
 
@@ -151,7 +150,7 @@ impl<C: Copy> BinState<C> {
         ensures waited { IfErr result (λ e. first_waited version self.old.waiting ≡ Some e.name) }
         ensures same { OnErr result (self.new ≡ self.old) }
     {
-        if let Some(name) = waited(&self.waiting, version) {
+        if let Some(name) = self.waiting.first_waited(version) {
             return Err(StillWaited { name });
         }
         Ok(self.entries.drop_version(version))

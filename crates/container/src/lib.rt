@@ -16,6 +16,8 @@ mod refusals;
 #[cfg(test)]
 mod tests;
 mod version_entries;
+mod wait_list;
+mod wait_log;
 
 pub use bin::Bin;
 pub use bin_state::BinState;

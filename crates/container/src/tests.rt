@@ -74,6 +74,34 @@ fn callbacks_of_a_name_come_out_in_order(rt: HostRuntime) -> Result<(), Fail> {
     Ok(())
 }
 
+// Two look-ups wait for each of a hundred names, and entries are put from the last name down, while others come to wait.
+#[test]
+fn hundreds_of_look_ups_wait(rt: HostRuntime) {
+    let mut bin = BinState::new(rt.alloc());
+    for id in 0..200u64 {
+        assert_eq!(rt; bin.find_or_wait(name(1, id % 100), task(id)), Ok(None));
+    }
+    for place in (1..100u64).rev() {
+        assert_eq!(rt; bin.drop_version(1), Err(StillWaited { name: name(1, 0) }));
+        assert_eq!(rt; bin.find_or_wait(name(2, place), task(place)), Ok(None));
+        let expected = [task(place), task(place + 100)];
+        assert!(rt;
+            hands_out(bin.insert(name(1, place), 7), &expected),
+            "at {place}"
+        );
+    }
+    assert!(rt; hands_out(bin.insert(name(1, 0), 7), &[task(0), task(100)]));
+    assert_eq!(rt; bin.drop_version(1), Ok(100));
+    assert_eq!(rt; bin.drop_version(2), Err(StillWaited { name: name(2, 99) }));
+    for place in 1..100u64 {
+        assert!(rt;
+            hands_out(bin.insert(name(2, place), 8), &[task(place)]),
+            "at {place}"
+        );
+    }
+    assert_eq!(rt; bin.drop_version(2), Ok(99));
+}
+
 #[test]
 fn versions_are_dropped_one_at_a_time(rt: HostRuntime) {
     let mut bin = BinState::new(rt.alloc());

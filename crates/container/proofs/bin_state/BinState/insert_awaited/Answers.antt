@@ -5,11 +5,10 @@ use Rattle.container.proofs.bin_state.BinState.insert_awaited.Given.{Over}
 use Rattle.container.proofs.bin_state.BinState.insert_awaited.Goals as goal
 
 -- nothing waits for the name
-all_stay : (g : Over) (c : goal.Then-is_empty g) → others c.args.name c.self.inside.waiting.items ≡ c.self.inside.waiting.items
+all_stay : (g : Over) (c : goal.Then-is_empty g) → others c.args.name c.self.inside.waiting ≡ c.self.inside.waiting
 all_stay g c =
-    let waits = rw c.deref.ensures.value at c.in-Ok.ensures in
     let none : c.in-Ok.callbacks ≡ [] = empty_list c.in-Ok.callbacks (sym c.if-is_empty.ensures) in
-    others_are_all c.args.name c.self.inside.waiting.items (sym waits ∙ none)
+    others_are_all c.args.name c.self.inside.waiting (sym c.in-Ok.ensures ∙ none)
 
 pub invariant_of-self-then-is_empty : goal.invariant_of-self-then-is_empty
 invariant_of-self-then-is_empty g c =
