@@ -16,7 +16,7 @@ use Rattle.event_lists.specs.Legal.{Legal}
 use Rattle.event_lists.specs.TaskRuns.{main_does}
 use Rattle.haar_units.specs.Units.{down_unit, erase_unit, key_future, entry}
 use Rattle.haar_units.proofs.EffectLemmas.{some_is, none_is}
-use Rattle.haar_lists.specs.SmallRun.{down, up, erase, acts, stores, row, first_receipt, second_receipt, whole_run}
+use Rattle.haar_lists.specs.SmallRun.{down, up, erase, acts, stores, counts, first_receipt, second_receipt, whole_run}
 
 -- what holds of both ranks holds of each
 each_rank : (P : ℕ → Type 0) → P 0 → P 1 → (q : ℕ) → q < 2 → P q
@@ -471,7 +471,7 @@ legal_34 : Legal 2 0 at_34
 legal_34 = (record { named = (omega arith, omega arith); counting = tt; dues = tt; fences = (refl, (refl, refl, refl), refl, (1, (reading handlings 1 1 1 ∷ []), refl)); bins = refl }, legal_33)
 
 legal_35 : Legal 2 0 at_35
-legal_35 = (record { named = (omega arith, omega arith); counting = tt; dues = tt; fences = (refl, (refl, refl, refl), refl, (inl refl, ready_second 1 at_34 (row 1 1 3) (row 1 1 1) refl refl)); bins = refl }, legal_34)
+legal_35 = (record { named = (omega arith, omega arith); counting = tt; dues = tt; fences = (refl, (refl, refl, refl), refl, (inl refl, ready_second 1 at_34 (counts 1 1 3) (counts 1 1 1) refl refl)); bins = refl }, legal_34)
 
 legal_36 : Legal 2 0 at_36
 legal_36 = (record { named = (omega arith, omega arith); counting = tt; dues = tt; fences = (refl, (refl, refl, refl), refl, (1, (reading sends 1 1 1 ∷ reading submissions 3 1 1 ∷ reading runs 3 1 1 ∷ reading handlings 1 1 1 ∷ []), refl)); bins = refl }, legal_35)
@@ -483,7 +483,7 @@ legal_38 : Legal 2 0 at_38
 legal_38 = (record { named = (omega arith, omega arith); counting = tt; dues = tt; fences = (refl, (refl, refl, refl), refl, (3, (reading handlings 1 1 2 ∷ reading sends 1 1 1 ∷ reading submissions 3 1 1 ∷ reading runs 3 1 1 ∷ reading handlings 1 1 1 ∷ []), refl)); bins = refl }, legal_37)
 
 legal_39 : Legal 2 0 at_39
-legal_39 = (record { named = (omega arith, omega arith); counting = tt; dues = tt; fences = (refl, (refl, refl, refl), refl, (inl refl, ready_second 1 at_38 (row 1 1 3) (row 1 1 1) refl refl)); bins = refl }, legal_38)
+legal_39 = (record { named = (omega arith, omega arith); counting = tt; dues = tt; fences = (refl, (refl, refl, refl), refl, (inl refl, ready_second 1 at_38 (counts 1 1 3) (counts 1 1 1) refl refl)); bins = refl }, legal_38)
 
 legal_40 : Legal 2 0 at_40
 legal_40 = (record { named = (omega arith, omega arith); counting = tt; dues = tt; fences = (refl, (refl, refl, refl), refl, (1, (reading sends 1 1 1 ∷ reading submissions 1 1 1 ∷ reading runs 1 1 1 ∷ reading handlings 1 1 1 ∷ []), refl)); bins = refl }, legal_39)
@@ -495,7 +495,7 @@ legal_42 : Legal 2 0 at_42
 legal_42 = (record { named = (omega arith, omega arith); counting = tt; dues = tt; fences = (refl, (refl, refl, refl), refl, (1, (reading handlings 1 1 2 ∷ reading sends 1 1 1 ∷ reading submissions 1 1 1 ∷ reading runs 1 1 1 ∷ reading handlings 1 1 1 ∷ []), refl)); bins = refl }, legal_41)
 
 legal_43 : Legal 2 0 at_43
-legal_43 = (record { named = (omega arith, omega arith); counting = tt; dues = tt; fences = (refl, (refl, refl, refl), refl, (0, refl, complete 1 1 at_42 (row 1 1 3) (row 1 1 1) refl refl, complete 1 2 at_42 (row 1 1 3) (row 1 1 1) refl refl, record { first = refl; sent_again = refl; handled_again = refl }, (refl, each_rank (λ q. row_of 1 2 (part (main_of q) at_42) ≡ slice_get ((row 1 1 3) ∷ (row 1 1 1) ∷ []) q) refl refl))); bins = refl }, legal_42)
+legal_43 = (record { named = (omega arith, omega arith); counting = tt; dues = tt; fences = (refl, (refl, refl, refl), refl, (0, refl, complete 1 1 at_42 (counts 1 1 3) (counts 1 1 1) refl refl, complete 1 2 at_42 (counts 1 1 3) (counts 1 1 1) refl refl, record { first = refl; sent_again = refl; handled_again = refl }, (refl, each_rank (λ q. row_of 1 2 (part (main_of q) at_42) ≡ slice_get ((counts 1 1 3) ∷ (counts 1 1 1) ∷ []) q) refl refl))); bins = refl }, legal_42)
 
 legal_44 : Legal 2 0 at_44
 legal_44 = (record { named = (omega arith, omega arith); counting = tt; dues = tt; fences = ((refl, refl, refl), refl); bins = refl }, legal_43)
@@ -639,7 +639,7 @@ legal_90 : Legal 2 0 at_90
 legal_90 = (record { named = (omega arith, omega arith); counting = tt; dues = tt; fences = (refl, (refl, refl, refl), refl, (3, (reading handlings 3 2 1 ∷ []), refl)); bins = refl }, legal_89)
 
 legal_91 : Legal 2 0 at_91
-legal_91 = (record { named = (omega arith, omega arith); counting = tt; dues = tt; fences = (refl, (refl, refl, refl), refl, (inl refl, ready_second 2 at_90 (row 3 2 7) (row 2 3 3) refl refl)); bins = refl }, legal_90)
+legal_91 = (record { named = (omega arith, omega arith); counting = tt; dues = tt; fences = (refl, (refl, refl, refl), refl, (inl refl, ready_second 2 at_90 (counts 3 2 7) (counts 2 3 3) refl refl)); bins = refl }, legal_90)
 
 legal_92 : Legal 2 0 at_92
 legal_92 = (record { named = (omega arith, omega arith); counting = tt; dues = tt; fences = (refl, (refl, refl, refl), refl, (2, (reading sends 3 2 1 ∷ reading submissions 7 2 1 ∷ reading runs 7 2 1 ∷ reading handlings 2 2 1 ∷ []), refl)); bins = refl }, legal_91)
@@ -651,7 +651,7 @@ legal_94 : Legal 2 0 at_94
 legal_94 = (record { named = (omega arith, omega arith); counting = tt; dues = tt; fences = (refl, (refl, refl, refl), refl, (7, (reading handlings 2 2 2 ∷ reading sends 3 2 1 ∷ reading submissions 7 2 1 ∷ reading runs 7 2 1 ∷ reading handlings 2 2 1 ∷ []), refl)); bins = refl }, legal_93)
 
 legal_95 : Legal 2 0 at_95
-legal_95 = (record { named = (omega arith, omega arith); counting = tt; dues = tt; fences = (refl, (refl, refl, refl), refl, (inl refl, ready_second 2 at_94 (row 3 2 7) (row 2 3 3) refl refl)); bins = refl }, legal_94)
+legal_95 = (record { named = (omega arith, omega arith); counting = tt; dues = tt; fences = (refl, (refl, refl, refl), refl, (inl refl, ready_second 2 at_94 (counts 3 2 7) (counts 2 3 3) refl refl)); bins = refl }, legal_94)
 
 legal_96 : Legal 2 0 at_96
 legal_96 = (record { named = (omega arith, omega arith); counting = tt; dues = tt; fences = (refl, (refl, refl, refl), refl, (3, (reading sends 2 2 1 ∷ reading submissions 3 2 1 ∷ reading runs 3 2 1 ∷ reading handlings 3 2 1 ∷ []), refl)); bins = refl }, legal_95)
@@ -663,7 +663,7 @@ legal_98 : Legal 2 0 at_98
 legal_98 = (record { named = (omega arith, omega arith); counting = tt; dues = tt; fences = (refl, (refl, refl, refl), refl, (3, (reading handlings 3 2 2 ∷ reading sends 2 2 1 ∷ reading submissions 3 2 1 ∷ reading runs 3 2 1 ∷ reading handlings 3 2 1 ∷ []), refl)); bins = refl }, legal_97)
 
 legal_99 : Legal 2 0 at_99
-legal_99 = (record { named = (omega arith, omega arith); counting = tt; dues = tt; fences = (refl, (refl, refl, refl), refl, (0, refl, complete 2 1 at_98 (row 3 2 7) (row 2 3 3) refl refl, complete 2 2 at_98 (row 3 2 7) (row 2 3 3) refl refl, record { first = refl; sent_again = refl; handled_again = refl }, (refl, each_rank (λ q. row_of 2 2 (part (main_of q) at_98) ≡ slice_get ((row 3 2 7) ∷ (row 2 3 3) ∷ []) q) refl refl))); bins = refl }, legal_98)
+legal_99 = (record { named = (omega arith, omega arith); counting = tt; dues = tt; fences = (refl, (refl, refl, refl), refl, (0, refl, complete 2 1 at_98 (counts 3 2 7) (counts 2 3 3) refl refl, complete 2 2 at_98 (counts 3 2 7) (counts 2 3 3) refl refl, record { first = refl; sent_again = refl; handled_again = refl }, (refl, each_rank (λ q. row_of 2 2 (part (main_of q) at_98) ≡ slice_get ((counts 3 2 7) ∷ (counts 2 3 3) ∷ []) q) refl refl))); bins = refl }, legal_98)
 
 legal_100 : Legal 2 0 at_100
 legal_100 = (record { named = (omega arith, omega arith); counting = tt; dues = tt; fences = ((refl, refl, refl), refl); bins = refl }, legal_99)

@@ -88,14 +88,14 @@ stores r bin n i e = record { lane = record { rank = r; bin = true; number = bin
 
 -- what each rank reads in both passes of a fence
 
-abbrev pub row : ℕ → ℕ → ℕ → Row
-row sent handled tasks = record { sent = sent; handled = handled; tasks = tasks }
+abbrev pub counts : ℕ → ℕ → ℕ → Row
+counts sent handled tasks = record { sent = sent; handled = handled; tasks = tasks }
 
 abbrev pub first_receipt : Receipt
-first_receipt = record { fence = 1; pass = 2; rows = row 1 1 3 ∷ row 1 1 1 ∷ [] }
+first_receipt = record { fence = 1; pass = 2; rows = counts 1 1 3 ∷ counts 1 1 1 ∷ [] }
 
 abbrev pub second_receipt : Receipt
-second_receipt = record { fence = 2; pass = 2; rows = row 3 2 7 ∷ row 2 3 3 ∷ [] }
+second_receipt = record { fence = 2; pass = 2; rows = counts 3 2 7 ∷ counts 2 3 3 ∷ [] }
 
 -- rank 0 runs the unit of the root: it puts the root's entry, sends the unit of the right half to rank 1, and submits the other two
 abbrev pub split : List Mark
