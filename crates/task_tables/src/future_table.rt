@@ -1,5 +1,5 @@
 //! The futures of a rank.
-ghost use Rattle.std.specs.Prelude.{◌≡◌, ◌↔◌, [], ◌∷◌, ◌++◌, None, Some, IfErr, IfNone, IfOk, IfSome, IsSome, OnErr, OnOk, OnSome};
+ghost use Rattle.std.specs.Prelude.{◌≡◌, ◌↔◌, [], ◌∷◌, ◌++◌, None, Some, IfErr, IfNone, IfOk, IfSome, IsSome, IsTrue, OnErr, OnOk, OnSome};
 ghost use Rattle.task_tables.specs.declared.future_state.FutureState.TheVariants as of;
 ghost use Rattle.task_tables.specs.Futures.{state_of, value_of, callbacks_of, HasInPlace, HasTheSame};
 ghost use Rattle.task_tables.specs.Giving.{IsAlready, refused_value, IsGiven, IsAsked, IsKnown};
@@ -104,6 +104,13 @@ impl<A: App, J: Naming<A>> FutureTable<A, J> {
         ensures same { HasTheSame self.old self.new }
     {
         find_value(self.alloc, app, &mut self.futures, future)
+    }
+
+    /// Whether a future has its value, and nobody has taken it out.
+    pub fn is_given(&self, future: Future) -> bool
+        ensures { IsTrue result ↔ IsSome (value_of (state_of self.now future)) }
+    {
+        matches!(known_of(&self.futures, future), Known::Value)
     }
 
     /// Gives a future its value, which is right for its label. `Already` exactly where the future has one. Each refusal
