@@ -146,14 +146,15 @@ pub fn combination_effects(
     Ok(effects)
 }
 
-/// A list of one effect.
+/// A list of one effect. Inlined, since the effect, of some hundred bytes, would else be copied for the call.
+#[inline(always)]
 pub fn one_effect(
     alloc: Global,
     effect: Effect<Unit, Value, Node>,
 ) -> Result<HaarEffects, OutOfMemory>
     ensures { IfOk result (λ e. e ≡ effect ∷ []) }
 {
-    let mut effects = Effects::new(alloc);
+    let mut effects = Effects::with_capacity(alloc, 1)?;
     effects.push(effect)?;
     Ok(effects)
 }
