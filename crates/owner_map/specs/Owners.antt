@@ -15,7 +15,7 @@ map_of_word word =
     else if bytes_eq word (codes "level") then Some Level
     else None
 
--- a key's neighbours on its level, its children and its parent are on other ranks, where there are enough
+-- neighbours on a level are three ranks apart, and the first keys of two levels seven, round and round
 abbrev pub spread : Key → ℕ → ℕ
 spread k ranks = (7 * k.level + 3 * k.at) % ranks
 
