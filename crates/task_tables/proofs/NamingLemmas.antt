@@ -6,10 +6,6 @@ pub some_then : {A : Type 0} {P Q : A → Type 0} (o : Option A) → IfSome o P 
 some_then (Some a) p f = f a p
 some_then None p f = p
 
-pub some_all : {A : Type 0} {P : A → Type 0} (o : Option A) → ((a : A) → P a) → IfSome o P
-some_all (Some a) f = f a
-some_all None f = tt
-
 pub some_both : {A : Type 0} {P Q R : A → Type 0} (o : Option A) → IfSome o P → IfSome o Q → ((a : A) → P a → Q a → R a) → IfSome o R
 some_both (Some a) p q f = f a p q
 some_both None p q f = p

@@ -98,7 +98,7 @@ fn two_values_named<A: App, J: Naming<A>>(
     ensures { IfOk result (λ o. IfSome o (λ r. AreRight (A.right_value app.now) (A.needs_of app.now r.unit) r.values.items)) }
 {
     let mut tables: RankTables<A, J> = RankTables::new(alloc);
-    let number = tables.number();
+    let number = 0;
     let task = Task::new(alloc, app, unit, number, Some(MAIN), &[needs.0, needs.1])?;
     let early = tables.tasks.enter(task)?;
     let of_another = tables.tasks.fill_value(number, 0, needs.1, second.0);
