@@ -15,7 +15,7 @@ use Rattle.haar_base.specs.declared.value.Value.TheVariants.{Bad}
 use Rattle.haar_meaning.specs.PlannedJobs.{PlannedJob, IsPlannedJob, job_of, Standing, standing_to, standing}
 use Rattle.haar_meaning.specs.PlannedJobs.Standing.{Before, At, After}
 use Rattle.haar_right.proofs.KnownLemmas.{none_earlier, from_first}
-use Rattle.haar_right.proofs.PlanLemmas.{take_more}
+use Rattle.haar_units.proofs.ReadLemmas.{take_more}
 use Rattle.haar_results.specs.Results.{Work, Made, value_lines, work_from, work_of, made_of_one, made_of, whole_text}
 use Rattle.haar_results.specs.RightResults.{IsRightResult, AreRightResults, lines_to, IsJobText, RightResultsMakeTheText}
 use Rattle.haar_results.proofs.ResultLemmas.{right_lines, right_bad}

@@ -48,9 +48,6 @@ pub added_none : (before : List ℕ) (o : Option (List ℕ)) (added : Bool) (tex
 added_none before None added text is none = (refl, is.1)
 added_none before (Some lines) added text is none = absurd (let first = is.0 in cc)
 
-pub made_start : (commands : List Command) (values : List Value) → IsMade commands values 0 0 []
-made_start commands values = record { all = refl }
-
 module _ (commands : List Command) (values : List Value) (index place : ℕ) (text : List ℕ) (made : IsMade commands values index place text) where
   -- after all commands
   pub made_end : length commands ≤ index → made_of (work_of commands) values ≡ record { text = text; overflow = None }

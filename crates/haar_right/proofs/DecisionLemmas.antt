@@ -176,10 +176,6 @@ abbrev pub NothingSecond : Visit → Type 0
 NothingSecond (visits.Give n v) = ⊤
 NothingSecond (visits.Split n left right held) = (left.second ≡ Nothing) × (right.second ≡ Nothing)
 
-abbrev pub NothingFirst : Visit → Type 0
-NothingFirst (visits.Give n v) = ⊤
-NothingFirst (visits.Split n left right held) = (left.first ≡ Nothing) × (right.first ≡ Nothing)
-
 -- for each tree that the first source may be
 abbrev pub FirstKnown : PlannedJob → Operation → Key → Visit → Type 0
 FirstKnown job operation k v = (t : Tree) → standing job (first_source operation) ≡ Before → tree_in (form_read operation) (version_of job (first_source operation)) ≡ Some t → FirstOf operation t k v

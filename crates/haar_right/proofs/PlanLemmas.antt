@@ -25,21 +25,11 @@ use Rattle.job_data.proofs.WriterLemmas.{written_form_writes}
 use Rattle.job_words.specs.declared.names.Name.{Name}
 use Rattle.haar_units.specs.ModelJobs.{keys_at}
 use Rattle.haar_units.proofs.EffectLemmas.{some_is, none_is}
+use Rattle.haar_units.proofs.ReadLemmas.{take_all, take_more}
 use Rattle.haar_base.specs.declared.operation.Operation.TheVariants.{Project, Refine, Coarsen, Compress, Reconstruct, Add, Mul, Inner, Print}
 use Rattle.haar_meaning.specs.PlannedJobs.{PlannedJob, IsPlannedJob, HasPlan, IsPlan, job_of, version_of}
 
 -- lists of commands
-
-pub take_more : (cs : List Command) (n : ℕ) (c : Command) → slice_get cs n ≡ Some c → take (suc n) cs ≡ take n cs ++ c ∷ []
-take_more [] n c e = none_is c e
-take_more (x ∷ cs) zero c e = ap (λ (y : Command). y ∷ []) (some_is x c e)
-take_more (x ∷ cs) (suc n) c e = ap (λ (ys : List Command). x ∷ ys) (take_more cs n c e)
-
-take_all : (cs : List Command) (n : ℕ) → slice_get cs n ≡ None → take (suc n) cs ≡ take n cs
-take_all [] zero e = refl
-take_all [] (suc n) e = refl
-take_all (x ∷ cs) zero e = absurd (cc)
-take_all (x ∷ cs) (suc n) e = ap (λ (ys : List Command). x ∷ ys) (take_all cs n e)
 
 pub split_at : (cs : List Command) (n : ℕ) (c : Command) → slice_get cs n ≡ Some c → cs ≡ take n cs ++ c ∷ drop (suc n) cs
 split_at [] n c e = none_is c e

@@ -6,7 +6,7 @@ use crate::names::{down, entry};
 use app_core::{Effect, Effects, Label, OutOfMemory};
 use haar_base::decisions::{Combination, Visit};
 use haar_base::{Down, Held, Sides, Unit, Up, Value};
-use haar_node::Node;
+use haar_node::{MAX_DEPTH, Node};
 use std::alloc::Global;
 use tree_key::Key;
 
@@ -104,7 +104,7 @@ pub fn visit_effects(
             right,
             held,
         } => {
-            if key.level() < 16 {
+            if key.level() < MAX_DEPTH {
                 put(&mut effects, command, key, node)?;
                 visit(&mut effects, command, key.child(false), left)?;
                 visit(&mut effects, command, key.child(true), right)?;
@@ -133,7 +133,7 @@ pub fn combination_effects(
             give(&mut effects, command, key, value)?;
         }
         Combination::Merge { sum } => {
-            if key.level() < 16 {
+            if key.level() < MAX_DEPTH {
                 put(&mut effects, command, key, Some(Node::Leaf(sum)))?;
                 clear(&mut effects, command, key.child(false))?;
                 clear(&mut effects, command, key.child(true))?;

@@ -1,4 +1,4 @@
--- What a name stands for before a command is what its last writer wrote.
+-- What a name stands for before a command is what its last writer wrote. Crates above use the lemmas on commands.
 use Rattle.std.proofs.Common.{◌≡◌, ◌⊎◌, ℕ, zero, suc, ◌<◌, ◌≤◌, Bool, true, false, List, [], ◌∷◌, ◌++◌, refl, sym, ap, ◌∙◌, subst, ⊎_elim, arith}
 use Rattle.std.specs.Prelude.{if◌then◌else◌, take, slice_get, Option, Some, None}
 use Rattle.std.specs.Option.{option_and_then}
@@ -11,12 +11,12 @@ use Rattle.haar_units.specs.ModelJobs.{versions_before, ReadsAreVersions}
 use Rattle.haar_units.proofs.EffectLemmas.{some_is, none_is}
 
 -- one more command, or none
-take_more : (cs : List Command) (n : ℕ) (c : Command) → slice_get cs n ≡ Some c → take (suc n) cs ≡ take n cs ++ c ∷ []
+pub take_more : (cs : List Command) (n : ℕ) (c : Command) → slice_get cs n ≡ Some c → take (suc n) cs ≡ take n cs ++ c ∷ []
 take_more [] n c e = absurd (cc)
 take_more (x ∷ cs) zero c e = ap (λ (y : Command). y ∷ []) (some_is x c e)
 take_more (x ∷ cs) (suc n) c e = ap (λ (ys : List Command). x ∷ ys) (take_more cs n c e)
 
-take_all : (cs : List Command) (n : ℕ) → slice_get cs n ≡ None → take (suc n) cs ≡ take n cs
+pub take_all : (cs : List Command) (n : ℕ) → slice_get cs n ≡ None → take (suc n) cs ≡ take n cs
 take_all [] zero e = refl
 take_all [] (suc n) e = refl
 take_all (x ∷ cs) zero e = absurd (cc)

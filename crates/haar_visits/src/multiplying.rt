@@ -7,7 +7,7 @@ use crate::adding::{split_two, width};
 use haar_base::decisions::{Visit, bad_visit};
 use haar_base::readings::{Leaf, leaf_at, leaf_sides};
 use haar_base::{Sides, Value};
-use haar_node::{Coefficient, Node, combine_mul};
+use haar_node::{Coefficient, MAX_VALUE, Node, combine_mul};
 use tree_key::Key;
 
 // Whether a number of cells divides a sum.
@@ -23,7 +23,7 @@ fn is_leaf_sum(sum: i64, cells: u32) -> bool
     requires { 1 ≤ cells }
     ensures { result ≡ is_leaf_sum sum cells }
 {
-    divides(cells, sum) && sum.unsigned_abs() <= u64::from(cells) * (1 << 24)
+    divides(cells, sum) && sum.unsigned_abs() <= u64::from(cells) * MAX_VALUE
 }
 
 // The sum over a leaf of the product, from the sums over its box. None where the product's value is too large.
