@@ -4,6 +4,12 @@ ghost use Rattle.rank.specs.Examples.{third};
 ghost use Rattle.rank.specs.Runs.{IsKeptAt, IsRightResult};
 ghost use Rattle.rank.specs.Walks.{IsWalk};
 
+use crate::hand::Hand;
+use crate::share::RankShare;
+use crate::signals::Signals;
+use app_core::{App, Naming};
+use mailbox::{Inbox, Mail};
+
 /// Where the futures of even places are kept at rank 0 and others at rank 1, and the right value of each is its place.
 fn results_are_of_one_rank_and_right()
     ensures kept { IsKeptAt (λ future. future.place % 2) 1 (Some third) }
@@ -21,3 +27,20 @@ fn walks_are_judged()
     ensures unseen { IsWalk 5 (record { commands = 2; results = 3; complete = false }) → ⊥ }
     ensures early { IsWalk 5 (record { commands = 4; results = 4; complete = true }) → ⊥ }
 {}
+
+/// What a thread of a hand's own needs: the hand moves there, and what it shares with others is reached from all threads.
+fn hands_may_cross_threads<A: App, J: Naming<A> + Send + Sync>(
+    hand: &Hand<'_, A, J>,
+    share: &RankShare<'_, A, J>,
+    inbox: &Inbox<Mail<A, J>>,
+    signals: &Signals,
+) {
+    may_move(hand);
+    may_be_shared(share);
+    may_be_shared(inbox);
+    may_be_shared(signals);
+}
+
+fn may_move<T: Send>(_: &T) {}
+
+fn may_be_shared<T: Sync>(_: &T) {}

@@ -26,7 +26,7 @@ struct State {
 }
 
 /// What a hand reads of the signals.
-#[derive(Clone, Copy, Debug, PartialEq, Eq)]
+#[derive(Clone, Copy)]
 pub(crate) enum Signal {
     GoOn,
     Finished,

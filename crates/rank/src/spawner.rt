@@ -5,7 +5,7 @@ use app_core::{App, Label};
 use event_lists::{Bringer, Future};
 
 /// Who spawns units: the main of a rank, or a task, with the future that it must fulfil if it has one.
-#[derive(Clone, Copy, Debug, PartialEq, Eq)]
+#[derive(Clone, Copy)]
 pub(crate) struct Spawner {
     pub(crate) by: Bringer,
     pub(crate) due: Option<Future>,

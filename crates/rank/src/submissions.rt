@@ -12,6 +12,9 @@ use future_cell::Callback;
 use std::sync::Wait;
 use task_tables::{FutureTable, Ready, Task};
 
+// So many entries a unit reads at most.
+const MAX_READS: u32 = 16;
+
 impl<'a, A: App, J: Naming<A>> Desk<'a, A, J> {
     // Submits a unit of this rank that needs no future. `due` is who created its due, if it has one. Where each entry that
     // it reads is there, the lock of the tables isn't taken.
@@ -90,7 +93,7 @@ fn find_reads<A: App, J: Naming<A>, R: Wait>(
 )
     requires named { J.app ≡ Some app.now }
 {
-    for index in 0..16u32 {
+    for index in 0..MAX_READS {
         let Some(entry) = read_of(app, task, index) else {
             return;
         };
@@ -149,7 +152,7 @@ fn fill_reads<A: App, J: Naming<A>, R: Wait>(
     requires named { J.app ≡ Some app.now }
 {
     let id = task.number();
-    for index in 0..16u32 {
+    for index in 0..MAX_READS {
         let Some(entry) = read_of(app, task, index) else {
             return Ok(());
         };

@@ -10,7 +10,7 @@ use app_core::{App, CommandKind, Naming};
 use std::sync::Wait;
 
 /// How far a main has gone through the commands.
-#[derive(Clone, Copy, Debug, PartialEq, Eq)]
+#[derive(Clone, Copy)]
 pub(crate) struct Walk {
     // How many commands it has gone through.
     pub(crate) commands: u32,
