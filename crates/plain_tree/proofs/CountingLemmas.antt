@@ -36,10 +36,6 @@ pub matched : (depth : ℕ) (kept : StoredTree) (o : Option Version) → Matches
 matched depth kept None is = absurd is
 matched depth kept (Some version) is = record { version = version; is = refl; keeps = is }
 
-pub unmatched : (depth : ℕ) (o : Option Version) → Matches depth None o → o ≡ None
-unmatched depth None is = refl
-unmatched depth (Some version) is = absurd is
-
 pub kept_shape : (depth : ℕ) (form : Form) (t : Tree) (kept : StoredTree) → KeepsForm depth form t kept → IsShape depth t.shape
 kept_shape depth Reconstructed t (KeptLeaves leaves) keeps = rw (← keeps.deep) keeps.keeps.sound.tree.shape
 kept_shape depth Reconstructed t (KeptDifferences tree) keeps = absurd keeps

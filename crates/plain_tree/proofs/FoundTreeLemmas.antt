@@ -4,7 +4,7 @@ use Rattle.std.specs.BTreeMap.{BTreeMap}
 use Rattle.tree_key.specs.Keys.{Key}
 use Rattle.tree_model.specs.Trees.{Tree}
 use Rattle.tree_operations.specs.InnerProducts.{IsCompressed}
-use Rattle.tree_operations.specs.StoredTrees.{IsReconstructed, HasLeaves, HasDifferences, HaveDifferences}
+use Rattle.tree_operations.specs.StoredTrees.{IsReconstructed, HasLeaves, HasDifferences, HaveLeaves, HaveDifferences}
 use Rattle.tree_operations.specs.declared.stored.Compressed.{Compressed as CompressedTree}
 
 -- the tree that is read, and is stored by its leaves
@@ -38,3 +38,15 @@ pub record AreReadCompressed (depth : ℕ) (left right : CompressedTree) (read :
 pub both_differences_read : (depth : ℕ) (left right : CompressedTree) (read : Option (Tree × Tree)) → HaveDifferences depth (Some (left, right)) read → AreReadCompressed depth left right read
 both_differences_read depth left right None has = absurd has
 both_differences_read depth left right (Some trees) has = record { first = trees.0; second = trees.1; is = refl; keeps_first = has.0; keeps_second = has.1 }
+
+-- two trees that are read, and are stored by their leaves
+pub record AreReadFrom (depth : ℕ) (left right : BTreeMap Key ℤ) (read : Option (Tree × Tree)) : Type 0 where
+  pub first : Tree
+  pub second : Tree
+  pub is : read ≡ Some (first, second)
+  pub keeps_first : IsReconstructed first depth left
+  pub keeps_second : IsReconstructed second depth right
+
+pub both_leaves_read : (depth : ℕ) (left right : BTreeMap Key ℤ) (read : Option (Tree × Tree)) → HaveLeaves depth (Some (left, right)) read → AreReadFrom depth left right read
+both_leaves_read depth left right None has = absurd has
+both_leaves_read depth left right (Some trees) has = record { first = trees.0; second = trees.1; is = refl; keeps_first = has.0; keeps_second = has.1 }

@@ -1,11 +1,11 @@
 -- Receipts of a job's commands, one command after another.
-use Rattle.std.proofs.Common.{◌≡◌, ℕ, ◌+◌, ◌*◌, ◌^◌, ◌<◌, ◌≤◌, List, [], ◌∷◌, ◌++◌, length, take, Bool, true, false, cond, sym, ◌∙◌, ap, ap₂, subst, arith, append_assoc, append-nil, length-append}
-use Rattle.std.specs.List.{count_by, fold}
+use Rattle.std.proofs.Common.{◌≡◌, ℕ, ◌+◌, ◌^◌, ◌<◌, ◌≤◌, List, [], ◌∷◌, ◌++◌, length, take, Bool, true, false, cond, sym, ◌∙◌, ap, ap₂, subst, arith, append_assoc, append-nil, length-append}
+use Rattle.std.specs.List.{fold}
 use Rattle.std.proofs.lemmas.List.{length-take}
 use Rattle.std.proofs.lemmas.List.Sums.{sum_by-append}
 use Rattle.tree_model.specs.Commands.{Command}
 use Rattle.tree_model.specs.Jobs.{command_lines}
-use Rattle.tree_model.specs.Receipts.{is_fence, fence_count, lines_with_receipts, receipt}
+use Rattle.tree_model.specs.Receipts.{is_fence, lines_with_receipts, receipt}
 use Rattle.tree_model.specs.Totals.{Distribution, Total, command_total, nothing, plus, total_from}
 use Rattle.tree_model.specs.Totals.{total_of as total_of_commands}
 use Rattle.tree_model.specs.Versions.{Versions, no_versions, after, versions_behind}

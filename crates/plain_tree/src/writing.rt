@@ -1,20 +1,23 @@
 //! What a command writes: a tree, or lines.
-ghost use Rattle.std.specs.Prelude.{◌≡◌, ◌^◌, ◌≤◌, ◌++◌, ℕ, List, Some, IfOk, OnOk, Err, true};
+ghost use Rattle.std.specs.Prelude.{◌≡◌, ◌^◌, ◌≤◌, ◌++◌, ℕ, List, Some, None, IfOk, OnOk, Err, true};
 ghost use Rattle.std.specs.Int.RustNames.{unsigned_abs};
 ghost use Rattle.std.specs.Option.{option_map};
 ghost use Rattle.job_words.specs.NameBytes.{bytes_of};
-ghost use Rattle.tree_model.specs.Commands.Command.{Refine, Coarsen, Compress, Reconstruct, Add, Mul, Inner, Print, Size};
-ghost use Rattle.tree_model.specs.Functions.{max_depth};
+ghost use Rattle.tree_model.specs.Commands.Command.{Project, Refine, Coarsen, Compress, Reconstruct, Add, Mul, Inner, Print, Size};
+ghost use Rattle.tree_model.specs.Functions.{fits, max_depth};
 ghost use Rattle.tree_model.specs.Jobs.{command_lines};
 ghost use Rattle.tree_model.specs.Signatures.{written_name};
 ghost use Rattle.tree_model.specs.Versions.{Versions, written, command_overflows};
+ghost use Rattle.haar_node.specs.Func.{function_of};
 ghost use Rattle.job_data.specs.Checks.{is_within_limits};
 ghost use Rattle.job_data.specs.Data.{data_of};
+ghost use Rattle.tree_operations.specs.Projecting.{projection_of};
 ghost use Rattle.tree_operations.specs.StoredTrees.{Matches};
 ghost use Rattle.plain_tree.specs.Trees.{HasVersions};
 
 use crate::lines::{add_inner, add_size, add_tree};
 use crate::trees::{Trees, both_compressed, both_leaves, compressed_of, leaves_of, tree_of};
+use haar_node::Func;
 use job_data::Command;
 use job_words::Name;
 use std::alloc::Global;
@@ -23,178 +26,6 @@ use tree_operations::{
     CommandError, StoredTree, add, coarsen, compress, inner, multiply, project, reconstruct,
     refine, size,
 };
-
-// What `refine` writes: the tree of the name with all keys down to a level.
-fn refined(
-    alloc: Global,
-    depth: u8,
-    trees: &Trees<'_>,
-    name: &[u8],
-    level: u8,
-) -> Result<Option<StoredTree>, OutOfMemory>
-    requires level { level ≤ depth }
-    requires versions { (versions : Versions) × HasVersions depth versions trees.now }
-    ensures { IfOk result (λ kept. (versions : Versions) → HasVersions depth versions trees.now →
-        Matches depth kept (written depth versions (Refine name.now level))) }
-{
-    match leaves_of(trees, name) {
-        Some(leaves) => Ok(Some(StoredTree::Reconstructed(refine(alloc, leaves, level)?))),
-        None => Ok(None),
-    }
-}
-
-// What `coarsen` writes: the tree of the name without the keys below those on whose box all values are the same.
-fn coarsened(
-    alloc: Global,
-    depth: u8,
-    trees: &Trees<'_>,
-    name: &[u8],
-) -> Result<Option<StoredTree>, OutOfMemory>
-    requires { (versions : Versions) × HasVersions depth versions trees.now }
-    ensures { IfOk result (λ kept. (versions : Versions) → HasVersions depth versions trees.now →
-        Matches depth kept (written depth versions (Coarsen name.now))) }
-{
-    match leaves_of(trees, name) {
-        Some(leaves) => Ok(Some(StoredTree::Reconstructed(coarsen(alloc, leaves)?))),
-        None => Ok(None),
-    }
-}
-
-// What `compress` writes: the tree of the name, compressed.
-fn compressed(
-    alloc: Global,
-    depth: u8,
-    trees: &Trees<'_>,
-    name: &[u8],
-) -> Result<Option<StoredTree>, OutOfMemory>
-    requires { (versions : Versions) × HasVersions depth versions trees.now }
-    ensures { IfOk result (λ kept. (versions : Versions) → HasVersions depth versions trees.now →
-        Matches depth kept (written depth versions (Compress name.now))) }
-{
-    match leaves_of(trees, name) {
-        Some(leaves) => Ok(Some(StoredTree::Compressed(compress(alloc, leaves)?))),
-        None => Ok(None),
-    }
-}
-
-// What `reconstruct` writes: the tree of the name, reconstructed.
-fn reconstructed(
-    alloc: Global,
-    depth: u8,
-    trees: &Trees<'_>,
-    name: &[u8],
-) -> Result<Option<StoredTree>, OutOfMemory>
-    requires { (versions : Versions) × HasVersions depth versions trees.now }
-    ensures { IfOk result (λ kept. (versions : Versions) → HasVersions depth versions trees.now →
-        Matches depth kept (written depth versions (Reconstruct name.now))) }
-{
-    match compressed_of(trees, name) {
-        Some(tree) => Ok(Some(StoredTree::Reconstructed(reconstruct(alloc, tree)?))),
-        None => Ok(None),
-    }
-}
-
-// What `mul` writes: the product of the trees of two names.
-fn multiplied(
-    alloc: Global,
-    depth: u8,
-    trees: &Trees<'_>,
-    left: &[u8],
-    right: &[u8],
-) -> Result<Option<StoredTree>, CommandError>
-    requires { (versions : Versions) × HasVersions depth versions trees.now }
-    ensures kept { IfOk result (λ kept. (versions : Versions) → HasVersions depth versions trees.now →
-        (name : List ℕ) → Matches depth kept (written depth versions (Mul name left.now right.now))) }
-    ensures over { result ≡ Err CommandError.Overflow → (versions : Versions) → HasVersions depth versions trees.now →
-        (name : List ℕ) → command_overflows depth versions (Mul name left.now right.now) ≡ true }
-{
-    match both_leaves(trees, left, right) {
-        Some((left, right)) => Ok(Some(StoredTree::Reconstructed(multiply(
-            alloc, depth, left, right,
-        )?))),
-        None => Ok(None),
-    }
-}
-
-// What `add` writes: the sum of the trees of two names, each times its factor.
-fn added(
-    alloc: Global,
-    depth: u8,
-    trees: &Trees<'_>,
-    left_factor: i64,
-    left: &[u8],
-    right_factor: i64,
-    right: &[u8],
-) -> Result<Option<StoredTree>, CommandError>
-    requires depth { depth ≤ max_depth }
-    requires left_factor { unsigned_abs left_factor ≤ 2 ^ 20 }
-    requires right_factor { unsigned_abs right_factor ≤ 2 ^ 20 }
-    requires versions { (versions : Versions) × HasVersions depth versions trees.now }
-    ensures kept { IfOk result (λ kept. (versions : Versions) → HasVersions depth versions trees.now →
-        (name : List ℕ) → Matches depth kept (written depth versions (Add name left_factor left.now right_factor right.now))) }
-    ensures over { result ≡ Err CommandError.Overflow → (versions : Versions) → HasVersions depth versions trees.now →
-        (name : List ℕ) → command_overflows depth versions (Add name left_factor left.now right_factor right.now) ≡ true }
-{
-    match both_compressed(trees, left, right) {
-        Some((left, right)) => {
-            let sum = add(alloc, depth, left_factor, left, right_factor, right)?;
-            Ok(Some(StoredTree::Compressed(sum)))
-        }
-        None => Ok(None),
-    }
-}
-
-// Adds the lines of `inner`.
-fn add_inner_lines(
-    depth: u8,
-    trees: &Trees<'_>,
-    left: &[u8],
-    right: &[u8],
-    text: &mut Text,
-) -> Result<(), OutOfMemory>
-    requires { (versions : Versions) × HasVersions depth versions trees.now }
-    ensures { OnOk result ((versions : Versions) → HasVersions depth versions trees.now →
-        text.new ≡ text.old ++ command_lines versions (Inner left.now right.now)) }
-{
-    match both_compressed(trees, left, right) {
-        Some((one, other)) => add_inner(text, left, right, inner(depth, one, other)),
-        None => Ok(()),
-    }
-}
-
-// Adds the lines of `print`.
-fn add_printed_lines(
-    depth: u8,
-    trees: &Trees<'_>,
-    name: &[u8],
-    text: &mut Text,
-) -> Result<(), OutOfMemory>
-    requires { (versions : Versions) × HasVersions depth versions trees.now }
-    ensures { OnOk result ((versions : Versions) → HasVersions depth versions trees.now →
-        text.new ≡ text.old ++ command_lines versions (Print name.now)) }
-{
-    match tree_of(trees, name) {
-        Some(kept) => add_tree(text, name, kept),
-        None => Ok(()),
-    }
-}
-
-// Adds the line of `size`.
-fn add_size_line(
-    depth: u8,
-    trees: &Trees<'_>,
-    name: &[u8],
-    text: &mut Text,
-) -> Result<(), OutOfMemory>
-    requires { (versions : Versions) × HasVersions depth versions trees.now }
-    ensures { OnOk result ((versions : Versions) → HasVersions depth versions trees.now →
-        text.new ≡ text.old ++ command_lines versions (Size name.now)) }
-{
-    match tree_of(trees, name) {
-        Some(kept) => add_size(text, name, size(kept)),
-        None => Ok(()),
-    }
-}
 
 /// What a command wrote.
 #[derive(Drop)]
@@ -215,6 +46,240 @@ fn named<'a>(name: &'a Name, tree: Option<StoredTree>) -> Written<'a>
         name: Some(name.bytes()),
         tree,
     }
+}
+
+// What a command wrote that writes no tree.
+fn nothing<'a>() -> Written<'a>
+    ensures name { result.name ≡ None }
+    ensures tree { result.tree ≡ None }
+{
+    Written {
+        name: None,
+        tree: None,
+    }
+}
+
+// Carries `project` out: it writes the tree of the function.
+fn write_projected<'a>(
+    alloc: Global,
+    depth: u8,
+    name: &'a Name,
+    function: Func,
+    level: u8,
+    tolerance: u32,
+) -> Result<Written<'a>, OutOfMemory>
+    requires depth { depth ≤ max_depth }
+    requires fits { fits depth (function_of function) ≡ true }
+    ensures name { IfOk result (λ done. option_map (λ name. name.now) done.name ≡ Some (bytes_of name.now)) }
+    ensures tree { IfOk result (λ done. (versions : Versions) →
+        Matches depth done.tree (written depth versions (Project (bytes_of name.now) (projection_of function level tolerance)))) }
+{
+    let leaves = project(alloc, depth, function, level, tolerance)?;
+    Ok(named(name, Some(StoredTree::Reconstructed(leaves))))
+}
+
+// Carries `refine` out: it writes the tree of the name with all keys down to a level.
+fn write_refined<'a>(
+    alloc: Global,
+    depth: u8,
+    trees: &Trees<'_>,
+    name: &'a Name,
+    level: u8,
+) -> Result<Written<'a>, OutOfMemory>
+    requires level { level ≤ depth }
+    requires versions { (versions : Versions) × HasVersions depth versions trees.now }
+    ensures name { IfOk result (λ done. option_map (λ name. name.now) done.name ≡ Some (bytes_of name.now)) }
+    ensures tree { IfOk result (λ done. (versions : Versions) → HasVersions depth versions trees.now →
+        Matches depth done.tree (written depth versions (Refine (bytes_of name.now) level))) }
+{
+    match leaves_of(trees, name.bytes()) {
+        Some(leaves) => {
+            let finer = refine(alloc, leaves, level)?;
+            Ok(named(name, Some(StoredTree::Reconstructed(finer))))
+        }
+        None => Ok(named(name, None)),
+    }
+}
+
+// Carries `coarsen` out: it writes the tree of the name without the keys below those on whose box all values are the same.
+fn write_coarsened<'a>(
+    alloc: Global,
+    depth: u8,
+    trees: &Trees<'_>,
+    name: &'a Name,
+) -> Result<Written<'a>, OutOfMemory>
+    requires { (versions : Versions) × HasVersions depth versions trees.now }
+    ensures name { IfOk result (λ done. option_map (λ name. name.now) done.name ≡ Some (bytes_of name.now)) }
+    ensures tree { IfOk result (λ done. (versions : Versions) → HasVersions depth versions trees.now →
+        Matches depth done.tree (written depth versions (Coarsen (bytes_of name.now)))) }
+{
+    match leaves_of(trees, name.bytes()) {
+        Some(leaves) => {
+            let coarser = coarsen(alloc, leaves)?;
+            Ok(named(name, Some(StoredTree::Reconstructed(coarser))))
+        }
+        None => Ok(named(name, None)),
+    }
+}
+
+// Carries `compress` out: it writes the tree of the name, compressed.
+fn write_compressed<'a>(
+    alloc: Global,
+    depth: u8,
+    trees: &Trees<'_>,
+    name: &'a Name,
+) -> Result<Written<'a>, OutOfMemory>
+    requires { (versions : Versions) × HasVersions depth versions trees.now }
+    ensures name { IfOk result (λ done. option_map (λ name. name.now) done.name ≡ Some (bytes_of name.now)) }
+    ensures tree { IfOk result (λ done. (versions : Versions) → HasVersions depth versions trees.now →
+        Matches depth done.tree (written depth versions (Compress (bytes_of name.now)))) }
+{
+    match leaves_of(trees, name.bytes()) {
+        Some(leaves) => {
+            let differences = compress(alloc, leaves)?;
+            Ok(named(name, Some(StoredTree::Compressed(differences))))
+        }
+        None => Ok(named(name, None)),
+    }
+}
+
+// Carries `reconstruct` out: it writes the tree of the name, reconstructed.
+fn write_reconstructed<'a>(
+    alloc: Global,
+    depth: u8,
+    trees: &Trees<'_>,
+    name: &'a Name,
+) -> Result<Written<'a>, OutOfMemory>
+    requires { (versions : Versions) × HasVersions depth versions trees.now }
+    ensures name { IfOk result (λ done. option_map (λ name. name.now) done.name ≡ Some (bytes_of name.now)) }
+    ensures tree { IfOk result (λ done. (versions : Versions) → HasVersions depth versions trees.now →
+        Matches depth done.tree (written depth versions (Reconstruct (bytes_of name.now)))) }
+{
+    match compressed_of(trees, name.bytes()) {
+        Some(tree) => {
+            let leaves = reconstruct(alloc, tree)?;
+            Ok(named(name, Some(StoredTree::Reconstructed(leaves))))
+        }
+        None => Ok(named(name, None)),
+    }
+}
+
+// Carries `mul` out: it writes the product of the trees of two names.
+fn write_product<'a>(
+    alloc: Global,
+    depth: u8,
+    trees: &Trees<'_>,
+    name: &'a Name,
+    left: &Name,
+    right: &Name,
+) -> Result<Written<'a>, CommandError>
+    requires { (versions : Versions) × HasVersions depth versions trees.now }
+    ensures name { IfOk result (λ done. option_map (λ name. name.now) done.name ≡ Some (bytes_of name.now)) }
+    ensures tree { IfOk result (λ done. (versions : Versions) → HasVersions depth versions trees.now →
+        Matches depth done.tree (written depth versions (Mul (bytes_of name.now) (bytes_of left.now) (bytes_of right.now)))) }
+    ensures over { result ≡ Err CommandError.Overflow → (versions : Versions) → HasVersions depth versions trees.now →
+        command_overflows depth versions (Mul (bytes_of name.now) (bytes_of left.now) (bytes_of right.now)) ≡ true }
+{
+    match both_leaves(trees, left.bytes(), right.bytes()) {
+        Some((left, right)) => {
+            let product = multiply(alloc, depth, left, right)?;
+            Ok(named(name, Some(StoredTree::Reconstructed(product))))
+        }
+        None => Ok(named(name, None)),
+    }
+}
+
+// Carries `add` out: it writes the sum of the trees of two names, each times its factor.
+fn write_sum<'a>(
+    alloc: Global,
+    depth: u8,
+    trees: &Trees<'_>,
+    name: &'a Name,
+    left_factor: i64,
+    left: &Name,
+    right_factor: i64,
+    right: &Name,
+) -> Result<Written<'a>, CommandError>
+    requires depth { depth ≤ max_depth }
+    requires left_factor { unsigned_abs left_factor ≤ 2 ^ 20 }
+    requires right_factor { unsigned_abs right_factor ≤ 2 ^ 20 }
+    requires versions { (versions : Versions) × HasVersions depth versions trees.now }
+    ensures name { IfOk result (λ done. option_map (λ name. name.now) done.name ≡ Some (bytes_of name.now)) }
+    ensures tree { IfOk result (λ done. (versions : Versions) → HasVersions depth versions trees.now →
+        Matches depth done.tree (written depth versions (Add (bytes_of name.now) left_factor (bytes_of left.now) right_factor (bytes_of right.now)))) }
+    ensures over { result ≡ Err CommandError.Overflow → (versions : Versions) → HasVersions depth versions trees.now →
+        command_overflows depth versions (Add (bytes_of name.now) left_factor (bytes_of left.now) right_factor (bytes_of right.now)) ≡ true }
+{
+    match both_compressed(trees, left.bytes(), right.bytes()) {
+        Some((left, right)) => {
+            let sum = add(alloc, depth, left_factor, left, right_factor, right)?;
+            Ok(named(name, Some(StoredTree::Compressed(sum))))
+        }
+        None => Ok(named(name, None)),
+    }
+}
+
+// Carries `inner` out: it adds the line of the inner product.
+fn print_inner<'a>(
+    depth: u8,
+    trees: &Trees<'_>,
+    left: &Name,
+    right: &Name,
+    text: &mut Text,
+) -> Result<Written<'a>, OutOfMemory>
+    requires { (versions : Versions) × HasVersions depth versions trees.now }
+    ensures nothing { IfOk result (λ done. (done.name ≡ None) × (done.tree ≡ None)) }
+    ensures text { OnOk result ((versions : Versions) → HasVersions depth versions trees.now →
+        text.new ≡ text.old ++ command_lines versions (Inner (bytes_of left.now) (bytes_of right.now))) }
+{
+    let (left, right) = (left.bytes(), right.bytes());
+    match both_compressed(trees, left, right) {
+        Some((one, other)) => {
+            add_inner(text, left, right, inner(depth, one, other))?;
+            Ok(nothing())
+        }
+        None => Ok(nothing()),
+    }
+}
+
+// Carries `print` out: it adds the lines of the tree.
+fn print_tree<'a>(
+    depth: u8,
+    trees: &Trees<'_>,
+    name: &Name,
+    text: &mut Text,
+) -> Result<Written<'a>, OutOfMemory>
+    requires { (versions : Versions) × HasVersions depth versions trees.now }
+    ensures nothing { IfOk result (λ done. (done.name ≡ None) × (done.tree ≡ None)) }
+    ensures text { OnOk result ((versions : Versions) → HasVersions depth versions trees.now →
+        text.new ≡ text.old ++ command_lines versions (Print (bytes_of name.now))) }
+{
+    let name = name.bytes();
+    match tree_of(trees, name) {
+        Some(kept) => add_tree(text, name, kept)?,
+        None => {}
+    }
+    Ok(nothing())
+}
+
+// Carries `size` out: it adds the line of the number of the tree's keys.
+fn print_size<'a>(
+    depth: u8,
+    trees: &Trees<'_>,
+    name: &Name,
+    text: &mut Text,
+) -> Result<Written<'a>, OutOfMemory>
+    requires { (versions : Versions) × HasVersions depth versions trees.now }
+    ensures nothing { IfOk result (λ done. (done.name ≡ None) × (done.tree ≡ None)) }
+    ensures text { OnOk result ((versions : Versions) → HasVersions depth versions trees.now →
+        text.new ≡ text.old ++ command_lines versions (Size (bytes_of name.now))) }
+{
+    let name = name.bytes();
+    match tree_of(trees, name) {
+        Some(kept) => add_size(text, name, size(kept))?,
+        None => {}
+    }
+    Ok(nothing())
 }
 
 /// Carries a command out: it makes the tree that the command writes, or adds its lines.
@@ -247,73 +312,31 @@ pub fn carry_out<'a>(
             function,
             level,
             tolerance,
-        } => {
-            let leaves = project(alloc, depth, *function, *level, *tolerance)?;
-            Ok(named(name, Some(StoredTree::Reconstructed(leaves))))
-        }
-        Command::Refine { name, level } => {
-            let tree = refined(alloc, depth, trees, name.bytes(), *level)?;
-            Ok(named(name, tree))
-        }
-        Command::Coarsen { name } => {
-            let tree = coarsened(alloc, depth, trees, name.bytes())?;
-            Ok(named(name, tree))
-        }
-        Command::Compress { name } => {
-            let tree = compressed(alloc, depth, trees, name.bytes())?;
-            Ok(named(name, tree))
-        }
-        Command::Reconstruct { name } => {
-            let tree = reconstructed(alloc, depth, trees, name.bytes())?;
-            Ok(named(name, tree))
-        }
+        } => Ok(write_projected(alloc, depth, name, *function, *level, *tolerance)?),
+        Command::Refine { name, level } => Ok(write_refined(alloc, depth, trees, name, *level)?),
+        Command::Coarsen { name } => Ok(write_coarsened(alloc, depth, trees, name)?),
+        Command::Compress { name } => Ok(write_compressed(alloc, depth, trees, name)?),
+        Command::Reconstruct { name } => Ok(write_reconstructed(alloc, depth, trees, name)?),
         Command::Add {
             name,
             left_factor,
             left,
             right_factor,
             right,
-        } => {
-            let (left, right) = (left.bytes(), right.bytes());
-            let tree = added(
-                alloc,
-                depth,
-                trees,
-                *left_factor,
-                left,
-                *right_factor,
-                right,
-            )?;
-            Ok(named(name, tree))
-        }
-        Command::Mul { name, left, right } => {
-            let tree = multiplied(alloc, depth, trees, left.bytes(), right.bytes())?;
-            Ok(named(name, tree))
-        }
-        Command::Inner { left, right } => {
-            add_inner_lines(depth, trees, left.bytes(), right.bytes(), text)?;
-            Ok(Written {
-                name: None,
-                tree: None,
-            })
-        }
-        Command::Print { name } => {
-            add_printed_lines(depth, trees, name.bytes(), text)?;
-            Ok(Written {
-                name: None,
-                tree: None,
-            })
-        }
-        Command::Size { name } => {
-            add_size_line(depth, trees, name.bytes(), text)?;
-            Ok(Written {
-                name: None,
-                tree: None,
-            })
-        }
-        Command::Fence => Ok(Written {
-            name: None,
-            tree: None,
-        }),
+        } => write_sum(
+            alloc,
+            depth,
+            trees,
+            name,
+            *left_factor,
+            left,
+            *right_factor,
+            right,
+        ),
+        Command::Mul { name, left, right } => write_product(alloc, depth, trees, name, left, right),
+        Command::Inner { left, right } => Ok(print_inner(depth, trees, left, right, text)?),
+        Command::Print { name } => Ok(print_tree(depth, trees, name, text)?),
+        Command::Size { name } => Ok(print_size(depth, trees, name, text)?),
+        Command::Fence => Ok(nothing()),
     }
 }

@@ -1,9 +1,9 @@
-use Rattle.std.proofs.Common.{◌≡◌, ℕ, sym, ◌∙◌, subst}
+use Rattle.std.proofs.Common.{◌≡◌, sym, ◌∙◌, subst}
 use Rattle.tree_model.specs.Nodes.Form.{Compressed}
 use Rattle.tree_model.specs.Totals.{intersection, over, visits_total}
 use Rattle.tree_model.specs.Versions.{read_two}
 use Rattle.tree_model.proofs.CutLemmas.{intersection_shape}
-use Rattle.tree_totals.specs.Counts.{Counts, distribution_of, total_of}
+use Rattle.tree_totals.specs.Counts.{distribution_of, total_of}
 use Rattle.plain_tree.proofs.CountingLemmas.{differences}
 use Rattle.plain_tree.proofs.FoundTreeLemmas.{both_differences_read}
 use Rattle.plain_tree.proofs.counting.inner_total.Goals as goal

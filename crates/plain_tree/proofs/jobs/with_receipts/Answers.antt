@@ -1,4 +1,4 @@
-use Rattle.std.proofs.Common.{◌≡◌, ◌+◌, ◌++◌, map, take, Err, sym, ◌∙◌, ap, ap₂, subst, rules}
+use Rattle.std.proofs.Common.{◌≡◌, ◌++◌, map, take, Err, sym, ◌∙◌, ap, ap₂, subst, rules}
 use Rattle.tree_model.specs.Jobs.{command_lines, overflow_from}
 use Rattle.tree_model.specs.Receipts.{receipt}
 use Rattle.tree_model.specs.Versions.{no_versions, versions_behind}

@@ -1,4 +1,4 @@
-use Rattle.std.proofs.Common.{◌≡◌, ◌+◌, ◌++◌, map, take, Err, sym, ◌∙◌, ap, subst}
+use Rattle.std.proofs.Common.{◌≡◌, ◌++◌, map, take, Err, sym, ◌∙◌, ap, subst}
 use Rattle.tree_model.specs.Jobs.{command_lines}
 use Rattle.tree_model.specs.Versions.{versions_behind}
 use Rattle.job_data.specs.Data.{data_of}
