@@ -3,9 +3,19 @@ use Rattle.std.specs.Prelude.{ℕ, ◌≤◌, Bool, ◌&&◌, List, [], ◌∷�
 use Rattle.std.specs.Option.{option_map}
 use Rattle.std.specs.Str.{bytes_eq}
 use Rattle.command_line.specs.Settings.{Word, Form, Setting, read_settings, value_of, has}
-use Rattle.command_line.specs.Values.{ranks_of, workers_of, map_of, number_of, max_ranks}
+use Rattle.command_line.specs.Values.{ranks_of, workers_of, map_of, number_of, max_ranks, max_workers}
 use Rattle.command_line.specs.declared.request.Request.{Request}
 use Rattle.command_line.specs.declared.request.Request.TheVariants.{Run, Serial, Check, BigJob}
+
+-- `run [--ranks N] [--workers N] [--map M]`
+abbrev pub run_form : Form
+run_form = record { options = codes "ranks" ∷ codes "workers" ∷ codes "map" ∷ []; flags = []; word = None }
+
+abbrev pub run_request : List Setting → Option Request
+run_request settings =
+    option_and_then (λ ranks. option_and_then (λ workers. option_map (Run ranks workers)
+    (map_of (value_of run_form (codes "map") settings)))
+    (workers_of (value_of run_form (codes "workers") settings))) (ranks_of (value_of run_form (codes "ranks") settings))
 
 -- `serial [--ranks N] [--map M] [--receipts]`
 abbrev pub serial_form : Form
@@ -43,7 +53,7 @@ alone request (word ∷ rest) = None
 -- the request of a command, which the first word names
 abbrev pub command_request : Word → List Word → Option Request
 command_request command rest =
-    if bytes_eq command (codes "run") then alone Run rest
+    if bytes_eq command (codes "run") then option_and_then run_request (read_settings run_form rest)
     else if bytes_eq command (codes "serial") then option_and_then serial_request (read_settings serial_form rest)
     else if bytes_eq command (codes "check") then alone Check rest
     else if bytes_eq command (codes "big") then option_and_then big_request (read_settings big_form rest)
@@ -56,7 +66,14 @@ request_of (command ∷ rest) = command_request command rest
 
 -- a request has 1 to 16 ranks, where it has ranks
 abbrev pub HasRanks : Request → Type 0
+HasRanks (Run ranks workers map) = (1 ≤ ranks) × (ranks ≤ max_ranks)
 HasRanks (Serial ranks map receipts) = (1 ≤ ranks) × (ranks ≤ max_ranks)
-HasRanks Run = ⊤
 HasRanks Check = ⊤
 HasRanks (BigJob number) = ⊤
+
+-- and at most 4 workers of each rank, where it has workers
+abbrev pub HasWorkers : Request → Type 0
+HasWorkers (Run ranks workers map) = workers ≤ max_workers
+HasWorkers (Serial ranks map receipts) = ⊤
+HasWorkers Check = ⊤
+HasWorkers (BigJob number) = ⊤

@@ -4,13 +4,26 @@ ghost use Rattle.owner_map.specs.declared.map.OwnerMap.TheVariants.{Block, Sprea
 ghost use Rattle.command_line.specs.Requests.{request_of};
 ghost use Rattle.command_line.specs.declared.request.Request.TheVariants.{Run, Serial, Check, BigJob};
 
-/// `run` and `check` without options.
+/// Commands without options, and words that are none.
 fn commands_without_options()
-    ensures run { request_of (codes "run" ∷ []) ≡ Some Run }
+    ensures run { request_of (codes "run" ∷ []) ≡ Some (Run 1 0 Block) }
     ensures check { request_of (codes "check" ∷ []) ≡ Some Check }
     ensures nothing { request_of [] ≡ None }
     ensures other { request_of (codes "walk" ∷ []) ≡ None }
-    ensures more { request_of (codes "run" ∷ codes "--ranks=2" ∷ []) ≡ None }
+    ensures more { request_of (codes "check" ∷ codes "--ranks=2" ∷ []) ≡ None }
+{}
+
+/// The options of a run are ranks, workers and a map.
+fn options_of_run()
+    ensures ranks { request_of (codes "run" ∷ codes "--ranks" ∷ codes "4" ∷ []) ≡ Some (Run 4 0 Block) }
+    ensures workers { request_of (codes "run" ∷ codes "--workers=2" ∷ []) ≡ Some (Run 1 2 Block) }
+    ensures map { request_of (codes "run" ∷ codes "--map" ∷ codes "level" ∷ []) ≡ Some (Run 1 0 Level) }
+    ensures all { request_of (codes "run" ∷ codes "--map=spread" ∷ codes "--workers" ∷ codes "4" ∷ codes "--ranks=16" ∷ []) ≡ Some (Run 16 4 Spread) }
+    ensures too_many { request_of (codes "run" ∷ codes "--workers" ∷ codes "5" ∷ []) ≡ None }
+    ensures no_ranks { request_of (codes "run" ∷ codes "--ranks=0" ∷ []) ≡ None }
+    ensures twice { request_of (codes "run" ∷ codes "--ranks=2" ∷ codes "--ranks=2" ∷ []) ≡ None }
+    ensures receipts { request_of (codes "run" ∷ codes "--receipts" ∷ []) ≡ None }
+    ensures trace { request_of (codes "run" ∷ codes "--trace" ∷ []) ≡ None }
 {}
 
 /// Options come in any order, with their values in the same word or in the next one.

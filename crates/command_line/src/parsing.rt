@@ -4,7 +4,7 @@ ghost use Rattle.std.specs.List.{list_any};
 ghost use Rattle.std.specs.Str.{bytes_eq};
 ghost use Rattle.clap.specs.Words.{app_of, new_app, rule_of};
 ghost use Rattle.command_line.specs.Parsing.{HasSettings, command_of, flag_rule, is_proper, option_rule, word_rule};
-ghost use Rattle.command_line.specs.Requests.{big_form, serial_form};
+ghost use Rattle.command_line.specs.Requests.{big_form, run_form, serial_form};
 ghost use Rattle.command_line.specs.Settings.{Form, read_settings};
 
 use clap::error::ErrorKind;
@@ -43,6 +43,17 @@ fn bare<'a>(alloc: Global, name: &'a str) -> Command<'a>
         .no_binary_name(true)
         .disable_help_flag(true)
         .disable_version_flag(true)
+}
+
+/// The command `run`.
+pub fn run_command<'a>(alloc: Global) -> Result<Command<'a>, AllocError>
+    ensures { IfOk result (λ command. app_of command ≡ command_of (codes "run") run_form) }
+{
+    let command = bare(alloc, "run")
+        .arg(option(alloc, "ranks"))?
+        .arg(option(alloc, "workers"))?
+        .arg(option(alloc, "map"))?;
+    Ok(command)
 }
 
 /// The command `serial`.

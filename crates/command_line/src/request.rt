@@ -2,11 +2,11 @@
 ghost use Rattle.std.specs.Prelude.{◌≡◌, IfOk, IfSome, List, map, option_and_then, option_map, string_bytes};
 ghost use Rattle.std.specs.Str.{bytes_eq};
 ghost use Rattle.command_line.specs.Parsing.{HasSettings};
-ghost use Rattle.command_line.specs.Requests.{HasRanks, alone, big_form, big_request, command_request, has_run_values, request_of, serial_form, serial_request};
+ghost use Rattle.command_line.specs.Requests.{HasRanks, HasWorkers, alone, big_form, big_request, command_request, has_run_values, request_of, run_form, run_request, serial_form, serial_request};
 ghost use Rattle.command_line.specs.Settings.{Word, read_settings};
 ghost use Rattle.command_line.specs.Values.{map_of, max_number, number_in, number_of, ranks_of, workers_of};
 
-use crate::parsing::{big_command, matches_of, serial_command};
+use crate::parsing::{big_command, matches_of, run_command, serial_command};
 use clap::ArgMatches;
 use job_words::size_of_digits;
 use owner_map::OwnerMap;
@@ -15,10 +15,17 @@ use std::alloc::{AllocError, Global};
 /// What the words of a command line ask for.
 #[derive(Clone, Copy, Debug, PartialEq, Eq)]
 pub enum Request {
-    /// `run`: the text of the job that the source gives.
-    Run,
+    /// `run`: the text of the job that the source gives, done in parallel.
+    Run {
+        /// On how many ranks, 1 to 16.
+        ranks: u32,
+        /// How many workers each rank has beside its main, at most 4.
+        workers: u32,
+        /// Which rank owns a key.
+        map: OwnerMap,
+    },
 
-    /// `serial`: the same, done serially.
+    /// `serial`: the text of that job, done serially.
     Serial {
         /// Over how many ranks the keys are distributed, 1 to 16.
         ranks: u32,
@@ -93,6 +100,20 @@ fn number_of(text: Option<&str>) -> Option<u32>
     number_in(0, u32::MAX, text?)
 }
 
+// What the options of `run` ask for.
+fn run_request(matches: &ArgMatches<'_>) -> Option<Request>
+    ensures { (words : List Word) → (s : HasSettings run_form words matches.now) → result ≡ run_request s.settings }
+{
+    let ranks = ranks_of(matches.get_str("ranks"))?;
+    let workers = workers_of(matches.get_str("workers"))?;
+    let map = map_of(matches.get_str("map"))?;
+    Some(Request::Run {
+        ranks,
+        workers,
+        map,
+    })
+}
+
 // What the options of `serial` ask for.
 fn serial_request(matches: &ArgMatches<'_>) -> Option<Request>
     ensures { (words : List Word) → (s : HasSettings serial_form words matches.now) → result ≡ serial_request s.settings }
@@ -107,7 +128,7 @@ fn serial_request(matches: &ArgMatches<'_>) -> Option<Request>
     })
 }
 
-// Whether the options of a run have values that they may have, where they are given.
+// Whether the options of a run have values that they may have, where they are given to `big`.
 fn has_run_values(matches: &ArgMatches<'_>) -> bool
     ensures { (words : List Word) → (s : HasSettings big_form words matches.now) → result ≡ has_run_values s.settings }
 {
@@ -129,6 +150,16 @@ fn big_request(matches: &ArgMatches<'_>) -> Option<Request>
     }
     let number = number_of(matches.get_str("number"))?;
     Some(Request::BigJob { number })
+}
+
+// What the words after `run` ask for.
+fn read_run(alloc: Global, words: &[String]) -> Result<Option<Request>, AllocError>
+    ensures { IfOk result (λ request. request ≡ option_and_then run_request (read_settings run_form (map string_bytes words.now))) }
+{
+    match matches_of(run_command(alloc)?, words)? {
+        Some(matches) => Ok(run_request(&matches)),
+        None => Ok(None),
+    }
 }
 
 // What the words after `serial` ask for.
@@ -178,7 +209,7 @@ fn command_request(
     ensures { IfOk result (λ request. request ≡ command_request command.now (map string_bytes words.now)) }
 {
     if is_word(command, "run") {
-        Ok(alone(Request::Run, words))
+        read_run(alloc, words)
     } else if is_word(command, "serial") {
         read_serial(alloc, words)
     } else if is_word(command, "check") {
@@ -192,14 +223,16 @@ fn command_request(
 
 /// What the words after the program's name ask for.
 ///
-/// None exactly where they are in none of the forms `run`, `serial [--ranks N] [--map M] [--receipts]`, `check` and
-/// `big N [--ranks N] [--workers N] [--map M] [--receipts] --job`. Options come in any order, each at most once, as
-/// `--name value` or `--name=value`; a flag has no value. N of `big` comes before, between or after its options. A number is
-/// 1 to 10 decimal digits: N of `--ranks` is 1 to 16, N of `--workers` is at most 4, and N of `big` is at most 4,294,967,295.
-/// M is `block`, `spread` or `level`. `OutOfMemory` where there is no memory left.
+/// None exactly where they are in none of the forms `run [--ranks N] [--workers N] [--map M]`, `serial [--ranks N] [--map M]
+/// [--receipts]`, `check` and `big N [--ranks N] [--workers N] [--map M] [--receipts] --job`. Options come in any order, each
+/// at most once, as `--name value` or `--name=value`; a flag has no value. N of `big` comes before, between or after its
+/// options. A number is 1 to 10 decimal digits: N of `--ranks` is 1 to 16, N of `--workers` is at most 4, and N of `big` is at
+/// most 4,294,967,295. M is `block`, `spread` or `level`. Where they aren't given, there are 1 rank and no workers, and the
+/// map is `block`. `OutOfMemory` where there is no memory left.
 pub fn request_of(alloc: Global, words: &[String]) -> Result<Option<Request>, AllocError>
     ensures request { IfOk result (λ request. request ≡ request_of (map string_bytes words.now)) }
     ensures ranks { IfOk result (λ request. IfSome request HasRanks) }
+    ensures workers { IfOk result (λ request. IfSome request HasWorkers) }
 {
     match words {
         [command, rest @ ..] => command_request(alloc, command.as_str(), rest),

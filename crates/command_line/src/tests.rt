@@ -13,6 +13,15 @@ fn asked(alloc: Global, line: &str) -> Result<Option<Request>, AllocError> {
     request_of(alloc, &words)
 }
 
+// `run` with these options.
+fn run(ranks: u32, workers: u32, map: OwnerMap) -> Option<Request> {
+    Some(Request::Run {
+        ranks,
+        workers,
+        map,
+    })
+}
+
 // `serial` with these options.
 fn serial(ranks: u32, map: OwnerMap, receipts: bool) -> Option<Request> {
     Some(Request::Serial {
@@ -25,8 +34,17 @@ fn serial(ranks: u32, map: OwnerMap, receipts: bool) -> Option<Request> {
 #[test]
 fn each_form(rt: HostRuntime) -> Result<(), Fail> {
     let number = u32::MAX;
-    let cases: [(&str, Option<Request>); 16] = [
-        ("run", Some(Request::Run)),
+    let cases: [(&str, Option<Request>); 22] = [
+        ("run", run(1, 0, OwnerMap::Block)),
+        ("run --ranks 2", run(2, 0, OwnerMap::Block)),
+        ("run --ranks=16", run(16, 0, OwnerMap::Block)),
+        ("run --workers 4", run(1, 4, OwnerMap::Block)),
+        ("run --workers=0000000000", run(1, 0, OwnerMap::Block)),
+        ("run --map spread", run(1, 0, OwnerMap::Spread)),
+        (
+            "run --map=level --ranks 3 --workers=1",
+            run(3, 1, OwnerMap::Level),
+        ),
         ("check", Some(Request::Check)),
         ("serial", serial(1, OwnerMap::Block, false)),
         ("serial --receipts", serial(1, OwnerMap::Block, true)),
@@ -74,7 +92,17 @@ fn words_in_no_form(rt: HostRuntime) -> Result<(), Fail> {
         "walk",
         "Run",
         "run run",
-        "run --ranks 2",
+        "run --ranks 0",
+        "run --ranks 17",
+        "run --ranks=2 --ranks 2",
+        "run --workers 5",
+        "run --workers",
+        "run --workers -1",
+        "run --map Block",
+        "run --receipts",
+        "run --trace",
+        "run --job",
+        "run 7",
         "run --",
         "check --receipts",
         "serial --ranks",
