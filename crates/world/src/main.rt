@@ -1,6 +1,7 @@
 //! The program `world`: see `world_cli::world_main` for its words, its input and its statuses.
 #![tactic(auto)]
 
+use app_core::NoGate;
 use outside::{StdSink, StdSource};
 use std::alloc::Global;
 use std::process::ExitCode;
@@ -26,5 +27,6 @@ fn main(rt: HostRuntime) -> ExitCode {
     };
     let mut source = StdSource::new(rt.reader());
     let mut sink = StdSink::new(io::writer(&rt));
-    ExitCode::from(world_main(rt.alloc(), &words, &mut source, &mut sink))
+    let status = world_main(&rt, rt.alloc(), &words, &mut source, &mut sink, &NoGate);
+    ExitCode::from(status)
 }

@@ -9,7 +9,7 @@ use Rattle.command_line.specs.declared.request.Request.TheVariants.{Run, Serial,
 
 long_answer : (request : Request) (bytes : List ℕ) → has_input request ≡ true → max_input < length bytes
     → answer_to request bytes ≡ record { status = 2; text = codes "fault too long\n" }
-long_answer Run bytes input long = rw (lt-ltb max_input (length bytes) long) refl
+long_answer (Run ranks workers map) bytes input long = rw (lt-ltb max_input (length bytes) long) refl
 long_answer (Serial ranks map receipts) bytes input long = rw (lt-ltb max_input (length bytes) long) refl
 long_answer Check bytes input long = rw (lt-ltb max_input (length bytes) long) refl
 long_answer (BigJob number) bytes input long = absurd (true≢false (sym input))
@@ -36,6 +36,6 @@ pub needs_no_input : (request : Request) (left : Option (List ℕ)) (status : �
     → (answer_to request []).status ≡ status → (answer_to request []).text ≡ text → Answers request left status text
 needs_no_input (BigJob number) None status text none is says = record { bytes = []; told = tt; status = is; text = says }
 needs_no_input (BigJob number) (Some bytes) status text none is says = record { bytes = bytes; told = refl; status = is; text = says }
-needs_no_input Run left status text none is says = absurd (true≢false none)
+needs_no_input (Run ranks workers map) left status text none is says = absurd (true≢false none)
 needs_no_input (Serial ranks map receipts) left status text none is says = absurd (true≢false none)
 needs_no_input Check left status text none is says = absurd (true≢false none)

@@ -106,9 +106,9 @@ reading_answer answer (Err line) = record { status = job_fault; text = line }
 abbrev pub input_answer : (JobData → Answer) → List ℕ → Answer
 input_answer answer bytes = reading_answer answer (input_reading bytes)
 
--- the answer to a request on the bytes of an input; a generated job needs none
+-- the answer to a request on the bytes of an input; how a job is run plays no part, and a generated job needs no input
 abbrev pub answer_to : Request → List ℕ → Answer
-answer_to Run bytes = input_answer run_job_answer bytes
+answer_to (Run ranks workers map) bytes = input_answer run_job_answer bytes
 answer_to (Serial ranks map receipts) bytes = input_answer (serial_job_answer (by_map map ranks) receipts) bytes
 answer_to Check bytes = input_answer check_answer bytes
 answer_to (BigJob number) bytes = record { status = done; text = canonical_text (big_job number) }
@@ -116,7 +116,7 @@ answer_to (BigJob number) bytes = record { status = done; text = canonical_text 
 -- whether a request has an input
 abbrev pub has_input : Request → Bool
 has_input (BigJob number) = false
-has_input Run = true
+has_input (Run ranks workers map) = true
 has_input (Serial ranks map receipts) = true
 has_input Check = true
 

@@ -1,23 +1,31 @@
 //! The answers to small inputs, computed from the definitions. What is expected was worked out by hand.
 ghost use Rattle.std.specs.Prelude.{◌≡◌, [], codes, false, true};
-ghost use Rattle.owner_map.specs.declared.map.OwnerMap.TheVariants.{Block, Spread};
+ghost use Rattle.owner_map.specs.declared.map.OwnerMap.TheVariants.{Block, Level, Spread};
 ghost use Rattle.command_line.specs.declared.request.Request.TheVariants.{Run, Serial, Check, BigJob};
 ghost use Rattle.world_cli.specs.Answers.{answer_to, has_input};
 
 /// Without any line the header is missing on line 1.
 fn empty_input()
-    ensures { answer_to Run [] ≡ record { status = 2; text = codes "fault line 1 F2 header\n" } }
+    ensures { answer_to (Run 1 0 Block) [] ≡ record { status = 2; text = codes "fault line 1 F2 header\n" } }
 {}
 
 /// A ramp is printed cell by cell.
 fn printed_ramp()
-    ensures { answer_to Run (codes "job 1 depth 2\nproject f ramp 0 1 level 0 tol 0\nprint f\n")
+    ensures { answer_to (Run 1 0 Block) (codes "job 1 depth 2\nproject f ramp 0 1 level 0 tol 0\nprint f\n")
         ≡ record { status = 0; text = codes "tree f reconstructed\n2 0 0\n2 1 1\n2 2 2\n2 3 3\n" } }
+{}
+
+/// So it is on two ranks, and on sixteen with four workers each.
+fn ramp_on_more_ranks()
+    ensures two { answer_to (Run 2 0 Spread) (codes "job 1 depth 1\nproject f ramp 0 1 level 0 tol 0\nprint f\n")
+        ≡ record { status = 0; text = codes "tree f reconstructed\n1 0 0\n1 1 1\n" } }
+    ensures sixteen { answer_to (Run 16 4 Level) (codes "job 1 depth 1\nproject f ramp 0 1 level 0 tol 0\nprint f\n")
+        ≡ record { status = 0; text = codes "tree f reconstructed\n1 0 0\n1 1 1\n" } }
 {}
 
 /// A job without commands writes nothing.
 fn no_command()
-    ensures { answer_to Run (codes "job 1 depth 2\n") ≡ record { status = 0; text = [] } }
+    ensures { answer_to (Run 1 0 Block) (codes "job 1 depth 2\n") ≡ record { status = 0; text = [] } }
 {}
 
 /// A tree that isn't written can't be printed.
@@ -46,7 +54,7 @@ fn receipts_of_two_ranks()
 
 /// `run` names the first command that it can't carry out yet, and `serial` carries it out.
 fn commands_that_cannot_be_run_yet()
-    ensures run { answer_to Run (codes "job 1 depth 0\nproject f const 5 level 0 tol 0\nfence\nsize f\ncoarsen f\n")
+    ensures run { answer_to (Run 1 0 Block) (codes "job 1 depth 0\nproject f const 5 level 0 tol 0\nfence\nsize f\ncoarsen f\n")
         ≡ record { status = 2; text = codes "fault command 3 unbuilt\n" } }
     ensures serial { answer_to (Serial 1 Block false) (codes "job 1 depth 0\nproject f const 5 level 0 tol 0\nfence\nsize f\ncoarsen f\n")
         ≡ record { status = 0; text = codes "size f 1\n" } }

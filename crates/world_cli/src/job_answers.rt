@@ -1,5 +1,6 @@
 //! What the program answers to a job.
-ghost use Rattle.std.specs.Prelude.{◌≡◌, ◌≤◌, ◌<◌, ◌++◌, IfOk, IfSome, OnOk, length, position};
+ghost use Rattle.std.specs.Prelude.{◌≡◌, ◌≤◌, ◌<◌, ◌++◌, IfOk, IfSome, OnOk, false, length, position};
+ghost use Rattle.app_core.specs.Commands.{IsRankCount};
 ghost use Rattle.job_data.specs.Data.{data_of};
 ghost use Rattle.tree_model.specs.OperationTexts.{overflow_line};
 ghost use Rattle.tree_totals.specs.Counts.{by_map};
@@ -7,15 +8,20 @@ ghost use Rattle.world_cli.specs.Answers.{check_answer, first_unbuilt, is_unbuil
 ghost use Rattle.world_cli.specs.Status.{code_of};
 
 use crate::answer::Answer;
+use crate::parallel::parallel_job;
 use crate::status::Status;
+use app_core::Gate;
+use crew::Config;
 use job_lang::{Command, Job};
 use owner_map::OwnerMap;
 use plain_tree::{SerialError, serial};
 use std::alloc::Global;
+use std::sync::Wait;
+use std::thread::Threads;
 use tree_key::{OutOfMemory, Text};
 
-// Adds the line of the command that overflows.
-fn add_overflow(alloc: Global, text: &mut Text, command: u32) -> Result<(), OutOfMemory>
+/// Adds the line of the command that overflows.
+pub fn add_overflow(alloc: Global, text: &mut Text, command: u32) -> Result<(), OutOfMemory>
     ensures { OnOk result (text.new ≡ text.old ++ overflow_line command) }
 {
     let line = format!(in alloc; "overflow at command {command}\n")?;
@@ -88,13 +94,23 @@ fn unbuilt(alloc: Global, number: usize) -> Result<Answer, OutOfMemory>
 }
 
 /// The answer to a job that is run: the line of its first command that can't be carried out yet, or its text.
-pub fn run_job(alloc: Global, job: &Job) -> Result<Answer, OutOfMemory>
-    ensures status { IfOk result (λ answer. code_of answer.status ≡ (run_job_answer job.now).status) }
-    ensures text { IfOk result (λ answer. answer.text ≡ (run_job_answer job.now).text) }
+pub fn run_job<G: Gate, R: Wait + Threads + Sync>(
+    rt: &R,
+    alloc: Global,
+    job: Job,
+    map: OwnerMap,
+    config: &Config,
+    gate: &G,
+) -> Result<Answer, OutOfMemory>
+    requires ranks { IsRankCount config.now.ranks }
+    requires workers { config.now.workers ≤ 4 }
+    requires untraced { config.now.trace ≡ false }
+    ensures status { IfOk result (λ answer. code_of answer.status ≡ (run_job_answer job).status) }
+    ensures text { IfOk result (λ answer. answer.text ≡ (run_job_answer job).text) }
 {
-    match first_unbuilt(job) {
+    match first_unbuilt(&job) {
         Some(number) => unbuilt(alloc, number),
-        None => serial_job(alloc, job, OwnerMap::Block, 1, false),
+        None => parallel_job(rt, alloc, job, map, config, gate),
     }
 }
 

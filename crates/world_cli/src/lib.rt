@@ -1,4 +1,4 @@
-//! The program `world` as one call: words, a source and a sink go in, and a status comes out.
+//! The program `world` as one call: words, a source, a sink and a gate go in, and a status comes out.
 #![tactic(auto)]
 
 mod answer;
@@ -6,6 +6,9 @@ mod examples;
 mod job_answers;
 #[cfg(test)]
 mod option_tests;
+mod parallel;
+#[cfg(test)]
+mod parallel_tests;
 mod program;
 mod reading;
 mod requests;
@@ -15,6 +18,7 @@ mod tests;
 mod texts;
 
 pub use answer::Answer;
+pub use crew::Config;
 pub use program::world_main;
 pub use status::Status;
 pub use texts::{check_text, run_text, serial_text};

@@ -1,5 +1,6 @@
 //! The options of `serial`, the commands that `run` can't carry out yet, and generated jobs.
 use crate::tests::{RAMP, RAMP_LINES, RAMP_TEXT, run_over_memory, run_over_parts};
+use app_core::NoGate;
 use big_job::big_job;
 use job_lang::{parse, print};
 use outside::{MemSink, MemSource};
@@ -71,7 +72,7 @@ fn receipts_of_ranks_and_maps(rt: HostRuntime) -> Result<(), Fail> {
         ),
     ];
     for (words, head, commands, text) in cases {
-        let outcome = run_over_parts(rt.alloc(), words, &[head, commands])?;
+        let outcome = run_over_parts(&rt, rt.alloc(), words, &[head, commands])?;
         assert_eq!(rt; outcome.status, 0);
         assert!(rt;
             outcome.written.as_slice() == text,
@@ -87,7 +88,7 @@ fn receipts_of_jobs_that_end_early(rt: HostRuntime) -> Result<(), Fail> {
     let words = ["serial", "--ranks=2", "--receipts"];
     let forms: [&[&str]; 3] = [&words, &["run"], &["check"]];
     for form in forms {
-        let fault = run_over_parts(rt.alloc(), form, &[COARSENED_LINES, b"size f\n"])?;
+        let fault = run_over_parts(&rt, rt.alloc(), form, &[COARSENED_LINES, b"size f\n"])?;
         assert_eq!(rt; fault.status, 2);
         assert!(rt;
             fault.written.as_slice() == b"fault line 5 F9 size before a fence\n".as_slice()
@@ -95,7 +96,7 @@ fn receipts_of_jobs_that_end_early(rt: HostRuntime) -> Result<(), Fail> {
     }
     let large =
         b"job 1 depth 0\nproject f const 16777216 level 0 tol 0\nfence\nmul f = f * f\nfence\n";
-    let overflow = run_over_memory(rt.alloc(), &words, large)?;
+    let overflow = run_over_memory(&rt, rt.alloc(), &words, large)?;
     assert_eq!(rt; overflow.status, 3);
     assert!(rt;
         overflow.written.as_slice()
@@ -132,7 +133,7 @@ fn commands_that_cannot_be_run_yet(rt: HostRuntime) -> Result<(), Fail> {
         (b"print f\n", 0, RAMP_TEXT),
     ];
     for (commands, status, text) in cases {
-        let outcome = run_over_parts(rt.alloc(), &["run"], &[RAMP_LINES, commands])?;
+        let outcome = run_over_parts(&rt, rt.alloc(), &["run"], &[RAMP_LINES, commands])?;
         assert_eq!(rt; outcome.status, status);
         assert!(rt; outcome.written.as_slice() == text, "{commands:?}");
     }
@@ -161,17 +162,17 @@ fn generated_jobs(rt: HostRuntime) -> Result<(), Fail> {
         ],
     ];
     for words in cases {
-        let outcome = run_over_memory(alloc, words, RAMP)?;
+        let outcome = run_over_memory(&rt, alloc, words, RAMP)?;
         assert_eq!(rt; outcome.status, 0);
         assert!(rt; outcome.written.as_slice() == BIG, "{words:?}");
     }
-    let checked = run_over_memory(alloc, &["check"], BIG)?;
+    let checked = run_over_memory(&rt, alloc, &["check"], BIG)?;
     assert_eq!(rt; checked.status, 0);
     assert!(rt; checked.written.as_slice() == b"ok commands 18 trees 5\n".as_slice());
-    let unbuilt = run_over_memory(alloc, &["run"], BIG)?;
+    let unbuilt = run_over_memory(&rt, alloc, &["run"], BIG)?;
     assert_eq!(rt; unbuilt.status, 2);
     assert!(rt; unbuilt.written.as_slice() == b"fault command 16 unbuilt\n".as_slice());
-    let largest = run_over_memory(alloc, &["big", "4294967295", "--job"], b"")?;
+    let largest = run_over_memory(&rt, alloc, &["big", "4294967295", "--job"], b"")?;
     let read = parse(alloc, &largest.written)?;
     let same = print(alloc, &read)? == print(alloc, &big_job(alloc, u32::MAX)?)?;
     assert!(rt; same);
@@ -188,7 +189,10 @@ fn generated_jobs_read_nothing(rt: HostRuntime) -> Result<(), Fail> {
     }
     let mut source = MemSource::new(Vec::new(alloc), 1, vec![in alloc; 0u64]?);
     let mut sink = MemSink::new(alloc, 4096, Vec::new(alloc));
-    assert_eq!(rt; crate::world_main(alloc, &words, &mut source, &mut sink), 0);
+    assert_eq!(rt;
+        crate::world_main(&rt, alloc, &words, &mut source, &mut sink, &NoGate),
+        0
+    );
     assert!(rt; sink.bytes() == BIG);
     Ok(())
 }
@@ -208,7 +212,7 @@ fn product_of_three_functions(rt: HostRuntime) -> Result<(), Fail> {
         (&["run"], 2, b"fault command 18 unbuilt\n"),
     ];
     for (words, status, text) in cases {
-        let outcome = run_over_memory(rt.alloc(), words, PRODUCT)?;
+        let outcome = run_over_memory(&rt, rt.alloc(), words, PRODUCT)?;
         assert_eq!(rt; outcome.status, status);
         assert!(rt; outcome.written.as_slice() == text, "{words:?}");
     }

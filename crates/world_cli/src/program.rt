@@ -10,9 +10,12 @@ ghost use Rattle.command_line.specs.declared.request.Request.{Request as Asked};
 use crate::answer::Refusal;
 use crate::requests::answer_request;
 use crate::status::Status;
+use app_core::Gate;
 use command_line::request_of;
 use outside::{Sink, Source, write_all};
 use std::alloc::Global;
+use std::sync::Wait;
+use std::thread::Threads;
 
 const USAGE: &[u8] = b"usage: world run, serial, check, audit or big N, with options\n";
 
@@ -34,9 +37,13 @@ fn finish<K: Sink>(sink: &mut K, status: Status, text: &[u8]) -> u8
 /// The program `world`: carries out what the words ask for, and returns its exit status.
 ///
 /// `words` are those after the program's name; `command_line::request_of` has their forms. With `run`, `serial` and `check`
-/// the source is read to its end. `run` and `serial` do its job and write the text of the job to the sink, `serial` also with
-/// receipts; `check` only reads the job, and writes a line that tells how many commands and trees it has. `big` with `--job`
-/// reads nothing, and writes the text of a generated job. All is computed before the first byte is written.
+/// the source is read to its end. `run` and `serial` do its job and write the text of the job to the sink: `run` in parallel,
+/// on ranks and workers that are threads, and `serial` one command after another, also with receipts. `check` only reads the
+/// job, and writes a line that tells how many commands and trees it has. `big` with `--job` reads nothing, and writes the
+/// text of a generated job. All is computed before the first byte is written.
+///
+/// With `run`, each task enters and leaves the gate, and the call may wait for other threads: what is said of it holds if it
+/// returns. With the other words nothing waits.
 ///
 /// # Statuses
 ///
@@ -48,11 +55,13 @@ fn finish<K: Sink>(sink: &mut K, status: Status, text: &[u8]) -> u8
 /// - 4: memory was refused; nothing was written.
 /// - 5: the source failed; nothing was written.
 /// - 6: the sink failed; a prefix of what was to be written was written.
-pub fn world_main<S: Source, K: Sink>(
+pub fn world_main<S: Source, K: Sink, G: Gate, R: Wait + Threads + Sync>(
+    rt: &R,
     alloc: Global,
     words: &[String],
     source: &mut S,
     sink: &mut K,
+    gate: &G,
 ) -> u8
     requires { (piece : List ℕ) → K.fits sink.old piece }
 
@@ -107,7 +116,7 @@ pub fn world_main<S: Source, K: Sink>(
         Ok(None) => return finish(sink, Status::Usage, USAGE),
         Err(_) => return Status::OutOfMemory as u8,
     };
-    match answer_request(alloc, request, source) {
+    match answer_request(rt, alloc, request, source, gate) {
         Ok(answer) => finish(sink, answer.status, answer.text.bytes()),
         Err(Refusal::ReadFault) => Status::ReadFault as u8,
         Err(Refusal::OutOfMemory) => Status::OutOfMemory as u8,

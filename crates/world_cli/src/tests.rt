@@ -3,10 +3,13 @@ ghost use Rattle.std.specs.Prelude.{◌≡◌, []};
 ghost use Rattle.outside.specs.Causes.{Rose};
 
 use crate::world_main;
+use app_core::NoGate;
 use job_lang::{parse, print};
 use outside::{MemSink, MemSource};
 use std::alloc::{AllocError, Global};
+use std::sync::Wait;
 use std::test::Fail;
+use std::thread::Threads;
 
 pub(crate) const USAGE: &[u8] = b"usage: world run, serial, check, audit or big N, with options\n";
 
@@ -32,7 +35,8 @@ pub(crate) struct Outcome {
 }
 
 // Runs the program over memory.
-pub(crate) fn run_over_memory(
+pub(crate) fn run_over_memory<R: Wait + Threads + Sync>(
+    rt: &R,
     alloc: Global,
     words: &[&str],
     input: &[u8],
@@ -40,7 +44,7 @@ pub(crate) fn run_over_memory(
     let words = words_of(alloc, words)?;
     let mut source = MemSource::new(Vec::from_slice(alloc, input)?, 4096, Vec::new(alloc));
     let mut sink = MemSink::new(alloc, 4096, Vec::new(alloc));
-    let status = world_main(alloc, &words, &mut source, &mut sink);
+    let status = world_main(rt, alloc, &words, &mut source, &mut sink, &NoGate);
     Ok(Outcome {
         status,
         written: Vec::from_slice(alloc, sink.bytes())?,
@@ -87,7 +91,7 @@ fn jobs_and_faults(rt: HostRuntime) -> Result<(), Fail> {
         ),
     ];
     for (input, status, text) in cases {
-        let outcome = run_over_memory(rt.alloc(), &["run"], input)?;
+        let outcome = run_over_memory(&rt, rt.alloc(), &["run"], input)?;
         assert_eq!(rt; outcome.status, status);
         assert!(rt; outcome.written.as_slice() == text);
     }
@@ -115,7 +119,8 @@ fn canonical_job(rt: HostRuntime) -> Result<(), Fail> {
 }
 
 // Runs the program over memory that has these parts.
-pub(crate) fn run_over_parts(
+pub(crate) fn run_over_parts<R: Wait + Threads + Sync>(
+    rt: &R,
     alloc: Global,
     words: &[&str],
     parts: &[&[u8]],
@@ -124,12 +129,16 @@ pub(crate) fn run_over_parts(
     for part in parts {
         input.extend_from_slice(*part)?;
     }
-    run_over_memory(alloc, words, &input)
+    run_over_memory(rt, alloc, words, &input)
 }
 
 // The same with the word `serial`.
-fn serial_of(alloc: Global, parts: &[&[u8]]) -> Result<Outcome, AllocError> {
-    run_over_parts(alloc, &["serial"], parts)
+fn serial_of<R: Wait + Threads + Sync>(
+    rt: &R,
+    alloc: Global,
+    parts: &[&[u8]],
+) -> Result<Outcome, AllocError> {
+    run_over_parts(rt, alloc, &["serial"], parts)
 }
 
 #[test]
@@ -154,7 +163,7 @@ fn forms_of_a_ramp(rt: HostRuntime) -> Result<(), Fail> {
         ),
     ];
     for (commands, status, text) in cases {
-        let outcome = serial_of(rt.alloc(), &[RAMP_LINES, commands])?;
+        let outcome = serial_of(&rt, rt.alloc(), &[RAMP_LINES, commands])?;
         assert_eq!(rt; outcome.status, status);
         assert!(rt; outcome.written.as_slice() == text, "after {commands:?}");
     }
@@ -173,7 +182,7 @@ fn coarsened_trees_are_counted_after_a_fence(rt: HostRuntime) -> Result<(), Fail
         (b"refine f 1\ncompress f\nfence\nsize f\n", 0, b"size f 3\n"),
     ];
     for (commands, status, text) in cases {
-        let outcome = serial_of(rt.alloc(), &[head, commands])?;
+        let outcome = serial_of(&rt, rt.alloc(), &[head, commands])?;
         assert_eq!(rt; outcome.status, status);
         assert!(rt; outcome.written.as_slice() == text, "after {commands:?}");
     }
@@ -221,7 +230,7 @@ fn overflows_and_limits(rt: HostRuntime) -> Result<(), Fail> {
         ),
     ];
     for (input, status, text) in cases {
-        let outcome = serial_of(rt.alloc(), &[input])?;
+        let outcome = serial_of(&rt, rt.alloc(), &[input])?;
         assert_eq!(rt; outcome.status, status);
         assert!(rt; outcome.written.as_slice() == text, "for {input:?}");
     }
@@ -232,19 +241,19 @@ fn overflows_and_limits(rt: HostRuntime) -> Result<(), Fail> {
 fn the_three_words(rt: HostRuntime) -> Result<(), Fail> {
     let alloc = rt.alloc();
     for word in ["run", "serial"] {
-        let outcome = run_over_memory(alloc, &[word], RAMP)?;
+        let outcome = run_over_memory(&rt, alloc, &[word], RAMP)?;
         assert_eq!(rt; outcome.status, 0);
         assert!(rt; outcome.written.as_slice() == RAMP_TEXT);
     }
-    let checked = run_over_memory(alloc, &["check"], RAMP)?;
+    let checked = run_over_memory(&rt, alloc, &["check"], RAMP)?;
     assert_eq!(rt; checked.status, 0);
     assert!(rt; checked.written.as_slice() == b"ok commands 2 trees 1\n".as_slice());
     // A job that overflows is a job.
     let large = b"job 1 depth 0\nproject f const 16777216 level 0 tol 0\nmul f = f * f\nfence\n";
-    let overflowing = run_over_memory(alloc, &["check"], large)?;
+    let overflowing = run_over_memory(&rt, alloc, &["check"], large)?;
     assert_eq!(rt; overflowing.status, 0);
     assert!(rt; overflowing.written.as_slice() == b"ok commands 3 trees 1\n".as_slice());
-    let faulty = run_over_memory(alloc, &["check"], b"job 1 depth 0\nprint f\n")?;
+    let faulty = run_over_memory(&rt, alloc, &["check"], b"job 1 depth 0\nprint f\n")?;
     assert_eq!(rt; faulty.status, 2);
     assert!(rt; faulty.written.as_slice() == b"fault line 2 F6 unknown tree\n".as_slice());
     Ok(())
@@ -253,11 +262,11 @@ fn the_three_words(rt: HostRuntime) -> Result<(), Fail> {
 #[test]
 fn too_much_input(rt: HostRuntime) -> Result<(), Fail> {
     let most = vec![in rt.alloc(); b'#'; 1_048_576]?;
-    let one_line = run_over_memory(rt.alloc(), &["run"], &most)?;
+    let one_line = run_over_memory(&rt, rt.alloc(), &["run"], &most)?;
     assert_eq!(rt; one_line.status, 2);
     assert!(rt; one_line.written.as_slice() == b"fault line 2 F2 header\n".as_slice());
     let more = vec![in rt.alloc(); b'#'; 1_048_577]?;
-    let too_long = run_over_memory(rt.alloc(), &["run"], &more)?;
+    let too_long = run_over_memory(&rt, rt.alloc(), &["run"], &more)?;
     assert_eq!(rt; too_long.status, 2);
     assert!(rt; too_long.written.as_slice() == b"fault too long\n".as_slice());
     Ok(())
@@ -265,14 +274,16 @@ fn too_much_input(rt: HostRuntime) -> Result<(), Fail> {
 
 #[test]
 fn other_words(rt: HostRuntime) -> Result<(), Fail> {
-    let cases: [&[&str]; 22] = [
+    let cases: [&[&str]; 24] = [
         &[],
         &["walk"],
         &["run", "--ranks", "17"],
         &["run", "--ranks", "2", "--ranks", "2"],
-        &["run", "--ranks", "2"],
-        &["run", "--workers=1"],
+        &["run", "--workers=5"],
+        &["run", "--map", "blocks"],
         &["run", "--receipts"],
+        &["run", "--ranks=2", "--trace"],
+        &["run", "--", "--ranks=2"],
         &["serial", "--ranks", "17"],
         &["serial", "--ranks=2", "--ranks", "2"],
         &["serial", "--receipts", "--receipts"],
@@ -290,7 +301,7 @@ fn other_words(rt: HostRuntime) -> Result<(), Fail> {
         &["audit"],
     ];
     for words in cases {
-        let outcome = run_over_memory(rt.alloc(), words, RAMP)?;
+        let outcome = run_over_memory(&rt, rt.alloc(), words, RAMP)?;
         assert_eq!(rt; outcome.status, 1);
         assert!(rt; outcome.written.as_slice() == USAGE);
     }
@@ -304,7 +315,10 @@ fn failing_source(rt: HostRuntime) -> Result<(), Fail> {
     let failing = vec![in alloc; 1u64]?;
     let mut source = MemSource::new(Vec::from_slice(alloc, RAMP)?, 16, failing);
     let mut sink = MemSink::new(alloc, 8, Vec::new(alloc));
-    assert_eq!(rt; world_main(alloc, &words, &mut source, &mut sink), 5);
+    assert_eq!(rt;
+        world_main(&rt, alloc, &words, &mut source, &mut sink, &NoGate),
+        5
+    );
     assert!(rt; sink.bytes().is_empty());
     Ok(())
 }
@@ -316,14 +330,18 @@ fn failing_sink(rt: HostRuntime) -> Result<(), Fail> {
     let mut source = MemSource::new(Vec::from_slice(alloc, RAMP)?, 4096, Vec::new(alloc));
     let failing = vec![in alloc; 2u64]?;
     let mut sink = MemSink::new(alloc, 8, failing);
-    assert_eq!(rt; world_main(alloc, &words, &mut source, &mut sink), 6);
+    assert_eq!(rt;
+        world_main(&rt, alloc, &words, &mut source, &mut sink, &NoGate),
+        6
+    );
     assert!(rt; sink.bytes() == b"tree f reconstru".as_slice());
     assert_eq!(rt; sink.starved(), 0);
     Ok(())
 }
 
 // Over a sink in memory with no call made to fail, a write fails only when the sink is refused memory.
-fn write_fault_is_out_of_memory(
+fn write_fault_is_out_of_memory<R: Wait + Threads + Sync>(
+    rt: &R,
     alloc: Global,
     words: &[String],
     source: &mut MemSource,
@@ -333,7 +351,7 @@ fn write_fault_is_out_of_memory(
     requires planned { sink.old.failing ≡ [] }
     ensures { result ≡ 6 → Rose sink.old.starved sink.new.starved }
 {
-    let status = world_main(alloc, words, source, sink);
+    let status = world_main(rt, alloc, words, source, sink, &NoGate);
     let _ = sink.starved();
     status
 }
@@ -345,7 +363,7 @@ fn no_write_fault_with_memory(rt: HostRuntime) -> Result<(), Fail> {
     let mut source = MemSource::new(Vec::from_slice(alloc, RAMP)?, 1, Vec::new(alloc));
     let mut sink = MemSink::new(alloc, 1, Vec::new(alloc));
     assert_eq!(rt;
-        write_fault_is_out_of_memory(alloc, &words, &mut source, &mut sink),
+        write_fault_is_out_of_memory(&rt, alloc, &words, &mut source, &mut sink),
         0
     );
     assert!(rt; sink.bytes() == RAMP_TEXT);

@@ -1,5 +1,6 @@
 //! What the program answers to the bytes of an input, by each of its words; and the text of a generated job.
-ghost use Rattle.std.specs.Prelude.{◌≡◌, ◌≤◌, IfOk};
+ghost use Rattle.std.specs.Prelude.{◌≡◌, ◌≤◌, IfOk, false};
+ghost use Rattle.app_core.specs.Commands.{IsRankCount};
 ghost use Rattle.big_job.specs.Generator.{big_job};
 ghost use Rattle.job_lang.specs.Canonical.{canonical_text};
 ghost use Rattle.tree_totals.specs.Counts.{by_map};
@@ -10,10 +11,14 @@ use crate::answer::Answer;
 use crate::job_answers::{check_job, run_job, serial_job};
 use crate::reading::{Unread, read_job};
 use crate::status::Status;
+use app_core::Gate;
 use big_job::big_job;
+use crew::Config;
 use job_lang::print;
 use owner_map::OwnerMap;
 use std::alloc::Global;
+use std::sync::Wait;
+use std::thread::Threads;
 use tree_key::{OutOfMemory, Text};
 
 /// The answer to an input that is no job.
@@ -52,13 +57,24 @@ pub fn serial_text(
 }
 
 /// What `run` answers to the bytes of a job: as `serial` without receipts, but status 2 and a line with its number for the
-/// first `coarsen` or `size`, which can't be run yet. `OutOfMemory` when memory is refused.
-pub fn run_text(alloc: Global, bytes: &[u8]) -> Result<Answer, OutOfMemory>
+/// first `coarsen` or `size`, which can't be run yet. The job is done in parallel, on the ranks and workers of a `Config`,
+/// with an owner map; each task enters and leaves the gate. `OutOfMemory` when memory is refused.
+pub fn run_text<G: Gate, R: Wait + Threads + Sync>(
+    rt: &R,
+    alloc: Global,
+    bytes: &[u8],
+    map: OwnerMap,
+    config: &Config,
+    gate: &G,
+) -> Result<Answer, OutOfMemory>
+    requires ranks { IsRankCount config.now.ranks }
+    requires workers { config.now.workers ≤ 4 }
+    requires untraced { config.now.trace ≡ false }
     ensures status { IfOk result (λ answer. code_of answer.status ≡ (input_answer run_job_answer bytes.now).status) }
     ensures text { IfOk result (λ answer. answer.text ≡ (input_answer run_job_answer bytes.now).text) }
 {
     match read_job(alloc, bytes) {
-        Ok(job) => run_job(alloc, &job),
+        Ok(job) => run_job(rt, alloc, job, map, config, gate),
         Err(Unread::Fault(line)) => Ok(fault_answer(line)),
         Err(Unread::OutOfMemory) => Err(OutOfMemory),
     }
