@@ -4,11 +4,13 @@ ghost use Rattle.world_words.specs.Lanes.{CarrierView};
 
 use crate::naming::WordsNaming;
 use std::marker::{Model, PhantomData};
+use std::snapshot::Snapshot;
 use world_words::Carrier;
 
 /// What travels beside a carrier: the load of a message, or a task.
 pub trait CarriedLoad {
-    /// A carrier that contracts see so has this load. `CarriesUnit`, `CarriesValue` and `CarriesTask` are to be said here.
+    /// A carrier with this view has this load: for a message by `CarriesUnit` or `CarriesValue`, for a task by
+    /// `CarriesTask`.
     ghost is_load_of: { Self → CarrierView → Type 0 };
 }
 
@@ -20,7 +22,9 @@ pub struct Carried<A, J: WordsNaming<A>, L: CarriedLoad> {
     load: L,
     carrier: Carrier,
     to: u32,
-    of: PhantomData<A>,
+
+    // A snapshot crosses threads, whatever the application is.
+    of: PhantomData<Snapshot<A>>,
     by: PhantomData<J>,
 }
 
