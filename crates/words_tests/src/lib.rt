@@ -1,4 +1,4 @@
-//! Tests of the counter words: lanes that go through whole runs, on one thread and on two.
+//! Tests of the counter words: lanes that go through whole runs, on one thread.
 //!
 //! The turns that the tests share are functions with contracts of their own, so that each condition of each call is
 //! proved.
@@ -6,4 +6,7 @@
 
 #[cfg(test)]
 mod tests;
-mod turns;
+pub mod turns;
+pub mod visiting;
+pub mod visits;
+pub mod work;

@@ -5,7 +5,7 @@ use Rattle.event_lists.specs.Events.{main_of, part}
 use Rattle.event_lists.specs.Fences.{has_receipt}
 use Rattle.event_lists.specs.OwnEvents.{has_receipt_on_lane}
 use Rattle.event_lists.proofs.FenceLemmas.{receipt_on}
-use Rattle.words_tests.proofs.TurnLemmas.{received_in, receipt_known}
+use Rattle.words_tests.proofs.TurnLemmas.{received_in, receipt_known, deeds_same}
 use Rattle.words_tests.proofs.ReceiptTurnLemmas.{may_receive}
 use Rattle.words_tests.proofs.turns.receive.Goals as goal
 
@@ -33,3 +33,7 @@ pub returns-then-is_quiet-clause-receipt : goal.returns-then-is_quiet-clause-rec
 returns-then-is_quiet-clause-receipt g c = λ _.
     let a = c.args in
     receipt_known a.words.now (g.A.Facts.may_do a.words.now.app) None _ a.lane.now c.mark_receipt.new.lane c.mark_receipt.ensures
+
+pub returns-then-is_quiet-clause-done : goal.returns-then-is_quiet-clause-done
+returns-then-is_quiet-clause-done g c =
+    let a = c.args in deeds_same a.words.now (g.A.Facts.may_do a.words.now.app) None a.lane.now c.mark_receipt.new.lane _ c.mark_receipt.ensures c.requires.inside.reading.main.hand refl
