@@ -70,8 +70,8 @@ compare() {
     "${theirs[@]}" <"$room/$1" | cmp -s - "$room/text" || fail "depth $1: the plain program writes another text"
 }
 
-# One row: the two programs in turn. `first` has our time on one rank without workers at this depth.
-row() {
+# One table_line: the two programs in turn. `first` has our time on one rank without workers at this depth.
+table_line() {
     local depth=$1 ranks=$2 workers=$3 i
     on "$ranks" "$workers"
     compare "$depth"
@@ -90,9 +90,9 @@ printf 'medians of %s runs, %s processors, load %s, %s\n\n' "$runs" "$(nproc)" "
 echo '| depth | ranks | workers | world, ms | pool, ms | ratio | world, ns a task | own speed-up |'
 echo '|---|---|---|---|---|---|---|---|'
 for depth in 12 14; do
-    for size in '1 0' '4 0' '2 2' '1 4'; do row $depth $size; done
+    for size in '1 0' '4 0' '2 2' '1 4'; do table_line $depth $size; done
 done
-row 16 1 0
+table_line 16 1 0
 echo
 echo '| depth | ranks | workers | world, KB | pool, KB |'
 echo '|---|---|---|---|---|'
