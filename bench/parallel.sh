@@ -55,7 +55,7 @@ peak() {
 count() {
     local job=$1
     shift
-    valgrind --tool=callgrind --callgrind-out-file=/dev/null "$@" <"$job" 2>&1 >/dev/null | sed -n 's/.*Collected : //p'
+    valgrind --trace-children=yes --tool=callgrind --callgrind-out-file=/dev/null "$@" <"$job" 2>&1 >/dev/null | sed -n 's/.*Collected : //p'
 }
 
 median() { sort -n "$1" | awk '{ a[NR] = $1 } END { print a[int((NR + 1) / 2)] }'; }
