@@ -89,3 +89,46 @@ make_jobs() {
     coarsened_trees 16 'const 5' 16 1 >"$room/full trees coarsened to the root"
     coarsened_trees 16 'ramp 0 1' 1 24 >"$room/a full tree coarsened, all keys stay"
 }
+
+# The jobs that are run in parallel over and over, or while calls are refused: the first command of two that overflows, both
+# forms of a tree, and three functions with their products.
+parallel_jobs=(overflow forms product)
+
+make_parallel_jobs() {
+    cat >"$room/overflow" <<'JOB'
+job 1 depth 0
+project f const 16777216 level 0 tol 0
+print f
+compress f
+add h = 2 f + 0 f
+add k = 3 f + 0 f
+print h
+JOB
+    cat >"$room/forms" <<'JOB'
+job 1 depth 2
+project f ramp 0 1 level 0 tol 0
+compress f
+inner f f
+fence
+print f
+JOB
+    cat >"$room/product" <<'JOB'
+job 1 depth 12
+project f ramp 0 1 level 0 tol 0
+project g const 2 level 3 tol 0
+project h step 1024 5 9 level 0 tol 0
+compress f
+compress g
+compress h
+add p = 3 f + 1 h
+inner f g
+inner p g
+reconstruct p
+reconstruct h
+mul q = p * h
+fence
+compress q
+inner q g
+print g
+JOB
+}

@@ -22,42 +22,8 @@ trap 'rm -rf "$room"' EXIT
 
 [ -n "${WORLD:-}" ] || printf 'job 1 depth 0\n' | "$top/world" run || fail "the program could not be built"
 
-cat >"$room/overflow" <<'JOB'
-job 1 depth 0
-project f const 16777216 level 0 tol 0
-print f
-compress f
-add h = 2 f + 0 f
-add k = 3 f + 0 f
-print h
-JOB
-cat >"$room/forms" <<'JOB'
-job 1 depth 2
-project f ramp 0 1 level 0 tol 0
-compress f
-inner f f
-fence
-print f
-JOB
-cat >"$room/product" <<'JOB'
-job 1 depth 12
-project f ramp 0 1 level 0 tol 0
-project g const 2 level 3 tol 0
-project h step 1024 5 9 level 0 tol 0
-compress f
-compress g
-compress h
-add p = 3 f + 1 h
-inner f g
-inner p g
-reconstruct p
-reconstruct h
-mul q = p * h
-fence
-compress q
-inner q g
-print g
-JOB
+. "$top/bench/jobs.sh"
+make_parallel_jobs
 
 maps=(block spread level)
 processors=$(nproc)
@@ -83,7 +49,7 @@ run_once() {
     cmp -s "$room/text" "$room/$name.text" || fail "$name: another text: taskset -c $cpus world ${words[*]}"
 }
 
-for name in overflow forms product; do
+for name in "${parallel_jobs[@]}"; do
     expected=0
     "$world" serial <"$room/$name" >"$room/$name.text" || expected=$?
     from=$EPOCHREALTIME
