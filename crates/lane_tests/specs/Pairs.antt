@@ -1,5 +1,5 @@
 -- The lane of a main that has done nothing.
-use Rattle.std.specs.Prelude.{◌≡◌, ℕ, ◌≤◌, [], None}
+use Rattle.std.specs.Prelude.{◌≡◌, ℕ, ◌≤◌, []}
 use Rattle.event_lists.specs.Events.{main_of}
 use Rattle.world_words.specs.Lanes.{WordsView, LaneView}
 use Rattle.world_words.specs.Closing.{IsFree}
