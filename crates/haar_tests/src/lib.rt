@@ -6,8 +6,12 @@ mod both_bounds;
 #[cfg(test)]
 mod driver;
 #[cfg(test)]
+mod kinds;
+#[cfg(test)]
 mod orders;
 #[cfg(test)]
 mod tests;
 #[cfg(test)]
 mod wrong_inputs;
+#[cfg(test)]
+mod wrong_kinds;

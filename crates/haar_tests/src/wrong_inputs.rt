@@ -13,7 +13,8 @@ use tree_key::Key;
 const JOB: &[u8] =
     b"job 1 depth 3\nproject f ramp 0 1 level 0 tol 0\nrefine f 2\ncoarsen f\nproject g ramp 3 1 level 0 tol 0\nmul p = f * g\ncompress f\ncompress g\nadd h = 1 f + 1 g\ninner f g\nreconstruct h\nprint h\nfence\nsize h\nprint g\n";
 
-fn app(alloc: Global) -> Result<HaarApp, Fail> {
+/// An application that has a command of each kind.
+pub fn app(alloc: Global) -> Result<HaarApp, Fail> {
     let job = match parse(alloc, JOB) {
         Ok(job) => job,
         Err(_) => return Err(Fail::from("no job")),
@@ -42,7 +43,8 @@ fn gives_bad(
     Ok(bad)
 }
 
-fn down(command: u32, key: Key, first: Side, second: Side) -> Unit {
+/// The unit of a command that visits a key, by what it knows of the trees.
+pub fn down(command: u32, key: Key, first: Side, second: Side) -> Unit {
     Unit::Down(Down {
         command,
         key,
@@ -51,7 +53,8 @@ fn down(command: u32, key: Key, first: Side, second: Side) -> Unit {
     })
 }
 
-fn up(command: u32, key: Key) -> Unit {
+/// The unit of a command that combines what the children of a key gave.
+pub fn up(command: u32, key: Key) -> Unit {
     let none = Haar {
         sum: Coefficient::new(0),
         difference: Coefficient::new(0),
@@ -67,7 +70,8 @@ fn up(command: u32, key: Key) -> Unit {
     })
 }
 
-fn cells(alloc: Global, nodes: &[Node]) -> Result<Vec<Node>, Fail> {
+/// The cells that a unit is given.
+pub fn cells(alloc: Global, nodes: &[Node]) -> Result<Vec<Node>, Fail> {
     let mut cells = Vec::new(alloc);
     for node in nodes {
         cells.push(*node)?;
