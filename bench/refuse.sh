@@ -2,8 +2,8 @@
 # Runs jobs in parallel while starts of threads, or requests for memory, are refused, and compares each text and status
 # with those of `world serial`. Where memory is refused, status 4 with nothing written is right too. It stops at the first
 # run that ends in another way, or doesn't end, and prints how it was run.
-# usage: bench/refuse.sh [FINENESS]. The calls refused lie closer together with a greater one; 8 if left out. WORLD may
-# name another program in its place.
+# usage: bench/refuse.sh [FINENESS]. The calls refused lie closer together with a greater one; 8 if left out. Of the small
+# jobs each request for memory is refused. WORLD may name another program in its place.
 # The program is linked dynamically, and its threads and memory come from the C library (pthread_create, malloc, realloc):
 # so bench/refuse.c, built by gcc and loaded before that library, takes each of these calls. It doesn't take the memory
 # that the C library gets from the system itself, as for the stacks of threads.
@@ -65,10 +65,10 @@ refuse_threads() {
     [ ! -e "$room/mark" ] || fail "more threads than hands: $how"
 }
 
-# Refuses requests for memory, until no run has so many of them.
+# Refuses requests for memory, until no run has so many of them: of a small job each, and of a large one some.
 refuse_memory() {
     local ranks=$1 workers=$2 step=$3 first
-    for ((first = 1; first <= most_calls; first += first / fineness + 1)); do
+    for ((first = 1; first <= most_calls; first += small ? 1 : first / fineness + 1)); do
         run_refused "$name" memory "$first" "$step" "$ranks" "$workers"
         if [ "$status" = "$out_of_memory" ] && [ ! -s "$room/text" ]; then
             [ -e "$room/mark" ] || fail "status 4, and nothing was refused: $how"
@@ -84,6 +84,8 @@ refuse_memory() {
 }
 
 for name in "${parallel_jobs[@]}"; do
+    small=1
+    [ "$name" != product ] || small=0
     expected=0
     "$world" serial <"$room/$name" >"$room/$name.text" || expected=$?
     thread_runs=0 right_runs=0 out_runs=0
