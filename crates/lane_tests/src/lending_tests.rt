@@ -5,12 +5,12 @@ ghost use Rattle.event_lists.specs.Events.{main_of};
 ghost use Rattle.world_words.specs.Lanes.{LaneView};
 ghost use Rattle.world_words.specs.Closing.{IsFree};
 ghost use Rattle.lane_tests.specs.Pairs.{IsNew};
-ghost use Rattle.lane_tests.specs.Loans.{program, sum_lent};
+ghost use Rattle.lane_tests.specs.Loans.{program, sum_lent, needs_of, step_of};
 ghost use Rattle.lane_tests.specs.Lending.{worker, HasLender, HasBorrower, HasOffered, HasAsked, KnowsGiven};
 
 use crate::lending::{ask, borrow, lend, offer};
-use crate::loans::{Loan, Loans, SUM_LENT};
-use app_core::{Effect, Effects};
+use crate::loans::{Loan, Loans};
+use app_core::{App, Effects, Inputs};
 use event_books::{Book, LanePart};
 use event_core::EventList;
 use event_lists::LaneName;
@@ -91,13 +91,13 @@ fn row_of(alloc: Global, first: Lane, second: Lane) -> Result<Vec<RankLanes>, Al
     Ok(vec![in alloc; row]?)
 }
 
-// The effects of the lender.
-fn giving(alloc: Global) -> Result<Effects<Loan, u64, u32>, Fail>
-    ensures { IfOk result (λ e. e ≡ Give sum_lent 7 ∷ []) }
+// The effects of a unit that gets these values, as the application has them.
+fn effects_of(alloc: Global, unit: Loan, values: Vec<u64>) -> Result<Effects<Loan, u64, u32>, Fail>
+    requires values { length values.items ≡ length (needs_of unit) }
+    ensures { IfOk result (λ e. e ≡ step_of unit) }
 {
-    let mut effects = Effects::new(alloc);
-    effects.push(Effect::Give(SUM_LENT, 7))?;
-    Ok(effects)
+    let inputs = Inputs::new(values, Vec::new(alloc), 0);
+    Ok(Loans.step(alloc, unit, inputs)?)
 }
 
 // All lanes of a rank whose worker gives what the main needs are closed.
@@ -108,8 +108,8 @@ fn closed<R: Threads + Sync>(
 ) -> Result<(Track<Loans>, Book), Fail>
     ensures book { IfOk result (λ r. trace ≡ true → r.1 ≡ r.0) }
 {
-    let gives = giving(alloc)?;
-    let nothing = Effects::new(alloc);
+    let gives = effects_of(alloc, Loan::Lender, Vec::new(alloc))?;
+    let nothing = effects_of(alloc, Loan::Borrower, vec![in alloc; 7]?)?;
     let (words, lanes) = Words::new(alloc, &Loans, 1, 1, trace)?;
     let Lanes { hands, bins, root } = lanes;
     let Some((mut main, mut lane)) = pop_pair(hands) else {
