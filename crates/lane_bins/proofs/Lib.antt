@@ -1,0 +1,3 @@
+pub mod BinLemmas
+pub mod LaneLemmas
+pub mod ExampleLemmas
