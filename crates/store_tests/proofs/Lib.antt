@@ -1,0 +1,2 @@
+mod CarryingLemmas
+mod BinLemmas

@@ -1,0 +1,7 @@
+//! A task with two puts and an erase is carried out over the lanes of two bins.
+#![tactic(auto)]
+
+pub mod carrying;
+pub mod laws;
+pub mod store;
+pub mod turns;
