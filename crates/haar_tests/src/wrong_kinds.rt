@@ -264,6 +264,88 @@ fn trees_that_are_not_known_are_bad(rt: HostRuntime) -> Result<(), Fail> {
     Ok(())
 }
 
+// The unit of a key below a leaf of the first tree, which reads the second alone.
+fn reads_second(command: u32, key: Key) -> Unit {
+    let above = Side::Below(Coefficient::new(0));
+    let read = Side::Entry(Coefficient::new(0));
+    down(command, key, above, read)
+}
+
+// The unit of a key below a leaf of the second tree, which reads the first alone.
+fn reads_first(command: u32, key: Key) -> Unit {
+    let read = Side::Entry(Coefficient::new(0));
+    let above = Side::Below(Coefficient::new(0));
+    down(command, key, read, above)
+}
+
+// Whether a unit that reads the second tree alone, or the first, is refused on nodes of these kinds.
+fn is_alone_refused(
+    alloc: Global,
+    app: &HaarApp,
+    reading: Reading,
+    key: Key,
+    kinds: &[NodeKind],
+) -> Result<(bool, bool), Fail> {
+    let unit = reads_second(reading.command, key);
+    let second = is_down_refused(alloc, app, reading, unit, kinds)?;
+    let unit = reads_first(reading.command, key);
+    let first = is_down_refused(alloc, app, reading, unit, kinds)?;
+    Ok((second, first))
+}
+
+// The same, where the other tree's node has children.
+fn is_beside_refused(
+    alloc: Global,
+    app: &HaarApp,
+    reading: Reading,
+    key: Key,
+    kind: NodeKind,
+) -> Result<(bool, bool), Fail> {
+    let other = NodeKind::with_children(reading.form, key.level() == 0);
+    let second = is_reader_refused(alloc, app, reading, key, &[other, kind])?;
+    let first = is_reader_refused(alloc, app, reading, key, &[kind, other])?;
+    Ok((second, first))
+}
+
+// The first kind of node that is refused there though a tree of the command has it at the key, or isn't though none has it.
+fn first_misjudged_of_two(
+    alloc: Global,
+    app: &HaarApp,
+    reading: Reading,
+    key: Key,
+) -> Result<Option<NodeKind>, Fail> {
+    for kind in NODE_KINDS {
+        let wrong = !kind.is_of(reading.form, key.level() == 0);
+        let alone = is_alone_refused(alloc, app, reading, key, &[kind])?;
+        let beside = is_beside_refused(alloc, app, reading, key, kind)?;
+        if alone != (wrong, wrong) || beside != (wrong, wrong) {
+            return Ok(Some(kind));
+        }
+    }
+    Ok(None)
+}
+
+#[test]
+fn nodes_beside_a_tree_of_another_shape_are_judged(rt: HostRuntime) -> Result<(), Fail> {
+    let app = app(rt.alloc())?;
+    for reading in readings() {
+        if reading.trees == 2 {
+            for place in [1u64, 2, 3, 5] {
+                let key = key(place)?;
+                let found = first_misjudged_of_two(rt.alloc(), &app, reading, key)?;
+                assert!(rt; found.is_none(), "{} at {place}: {found:?}", reading.name);
+                let none = is_alone_refused(rt.alloc(), &app, reading, key, &[])?;
+                assert!(rt;
+                    none == (true, true),
+                    "{} at {place}, no cell",
+                    reading.name
+                );
+            }
+        }
+    }
+    Ok(())
+}
+
 #[test]
 fn children_at_the_deepest_level_are_bad(rt: HostRuntime) -> Result<(), Fail> {
     let app = app(rt.alloc())?;
