@@ -1,5 +1,5 @@
 -- The lanes of all bins, of which one is used; and all lanes, before and after a run.
-use Rattle.std.proofs.Common.{◌≡◌, ℕ, zero, suc, ◌+◌, ◌≤◌, ◌<◌, Bool, true, false, List, [], ◌∷◌, ◌++◌, length, map, refl, sym, ap, subst, ◌∙◌, arith}
+use Rattle.std.proofs.Common.{◌≡◌, ℕ, zero, suc, ◌+◌, ◌<◌, true, List, [], ◌∷◌, length, map, refl, sym, ap, subst, ◌∙◌, arith}
 use Rattle.std.specs.Prelude.{All}
 use Rattle.std.proofs.Math.ListN.{set, get_or}
 use Rattle.std.proofs.lemmas.List.{map-set, set-get_or, get_or-map, length-map, append-nil}
@@ -8,7 +8,7 @@ use Rattle.event_lists.specs.declared.lane.LaneName.{LaneName}
 use Rattle.event_lists.specs.Events.{main_of}
 use Rattle.event_books.specs.Books.{lanes_from, lanes_in_order}
 use Rattle.world_words.specs.Lanes.{WordsView, LaneView}
-use Rattle.world_words.specs.Closing.{name_of, all_of, IsFree, AreAllLanes, new_lane}
+use Rattle.world_words.specs.Closing.{name_of, IsFree, AreAllLanes, new_lane}
 use Rattle.store_tests.specs.Turns.{IsResting, IsBin, AreBins}
 
 -- the lane at a place of those from k on

@@ -1,28 +1,24 @@
 -- What holds of a task that is carried out, from one of its effects to the next.
-use Rattle.std.proofs.Common.{◌≡◌, ◌≢◌, ℕ, suc, ◌≤◌, ◌<◌, Bool, true, false, List, [], ◌∷◌, map, refl, sym, ap, subst, ◌∙◌, ⊎_elim, arith}
+use Rattle.std.proofs.Common.{◌≡◌, ◌≢◌, ℕ, suc, Bool, true, false, List, [], ◌∷◌, refl, sym, ap, subst, ◌∙◌, ⊎_elim, arith}
 use Rattle.std.specs.Prelude.{Option, Some, None, ◌&&◌, ◌||◌, slice_get}
 use Rattle.std.proofs.lemmas.Bool.{both_ways, cases_eq, or_left}
 use Rattle.app_core.specs.declared.label.Label.{Label}
-use Rattle.app_core.specs.declared.label.CellName.{CellName}
 use Rattle.app_core.specs.declared.outline.Outline.{Outline}
 use Rattle.app_core.specs.declared.outline.Outline.TheVariants as of
 use Rattle.app_core.proofs.CountLemmas.{some_is}
 use Rattle.event_lists.specs.declared.lane.LaneName.{LaneName}
 use Rattle.event_lists.specs.declared.event.Event.{Event}
 use Rattle.event_lists.specs.declared.event.Event.TheVariants.{Submitted}
-use Rattle.event_lists.specs.declared.event.TaskName.{TaskName}
 use Rattle.event_lists.specs.declared.mark.Item.{Item}
 use Rattle.event_lists.specs.declared.mark.Item.TheVariants.{Task}
 use Rattle.event_lists.specs.declared.mark.Mark.{Mark}
 use Rattle.event_lists.specs.declared.mark.EffectName.{EffectName}
 use Rattle.event_lists.specs.declared.future.Future.{Future}
-use Rattle.event_lists.specs.declared.future.Bringer.{Bringer}
 use Rattle.event_lists.specs.declared.future.Bringer.TheVariants.{Task as task_of}
-use Rattle.event_lists.specs.Events.{part, in_hand, Begins, IsSubmitted}
-use Rattle.event_lists.specs.Futures.{bringer, is_bringer, due_of, spawned_needs, was_needed}
+use Rattle.event_lists.specs.Events.{part, in_hand, Begins}
+use Rattle.event_lists.specs.Futures.{bringer, is_bringer, due_of, was_needed}
 use Rattle.event_lists.specs.Dues.{Dues, HasPassedOn, NeedsAreDues}
 use Rattle.event_lists.specs.Laws.{label_of}
-use Rattle.event_lists.specs.Legal.{Legal}
 use Rattle.event_lists.specs.OwnEvents.{SpawnsFor, was_needed_on_lane}
 use Rattle.event_lists.proofs.ListLemmas.{on_begins, begins_trans}
 use Rattle.event_lists.proofs.NameLemmas.{all_named}
@@ -34,7 +30,7 @@ use Rattle.world_rule.specs.declared.view.Progress.{Progress}
 use Rattle.world_rule.specs.Owing.{ended}
 use Rattle.world_rule.specs.Views.{progress, next, mark}
 use Rattle.world_rule.specs.Steps.{IsNextEffect, KnowsStored}
-use Rattle.world_words.specs.Lanes.{WordsView, LaneView, Grew, SeesMore, task_name}
+use Rattle.world_words.specs.Lanes.{WordsView, LaneView, SeesMore, task_name}
 use Rattle.store_tests.specs.Turns.{NeedsNothing, IsAt}
 
 module _ {A : Type 0} (words : WordsView A) where

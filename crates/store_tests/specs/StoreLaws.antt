@@ -1,5 +1,5 @@
 -- The laws of the application on lists of events.
-use Rattle.std.proofs.Common.{◌≡◌, ◌⊎◌, ℕ, zero, suc, ◌≤◌, ◌<◌, Bool, true, false, List, [], ◌∷◌, refl, sym, ap, subst, ◌∙◌, inl, inr, arith}
+use Rattle.std.proofs.Common.{◌≡◌, ℕ, zero, suc, ◌≤◌, Bool, true, false, List, [], ◌∷◌, refl, sym, ap, subst, ◌∙◌, inl, inr, arith}
 use Rattle.std.specs.Prelude.{Option, Some, None, if◌then◌else◌, ◌==◌, slice_get, Contains}
 use Rattle.app_core.specs.declared.Label.{Label}
 use Rattle.app_core.specs.declared.CellName.{CellName}
@@ -19,12 +19,12 @@ use Rattle.event_lists.specs.Events.{Begins, StandsOn, part, same_lane, takes, I
 use Rattle.event_lists.specs.Counting.{Counting}
 use Rattle.event_lists.specs.Fences.{Fences, fence_in}
 use Rattle.event_lists.specs.Legal.{Legal}
-use Rattle.event_lists.proofs.ListLemmas.{legal_begins, begins_trans, begins_tail, on_begins, legal_named}
+use Rattle.event_lists.proofs.ListLemmas.{legal_begins, begins_trans, begins_tail, on_begins}
 use Rattle.event_lists.proofs.LaneLemmas.{same_lane_true}
 use Rattle.event_laws.specs.Follows.{TaskEffects, Start, IsRun, is_own, bin_of}
 use Rattle.event_laws.specs.Trees.{unit_of, LabelsAreTree, BringsUp, IsOnce}
-use Rattle.event_laws.specs.Apart.{Apart, spawned, HasOneBringer, EffectsApart, ErasesPut, PutBefore}
-use Rattle.event_laws.specs.Held.{HasReceipt, AllSound, all_told}
+use Rattle.event_laws.specs.Apart.{Apart, spawned, HasOneBringer, EffectsApart, ErasesPut}
+use Rattle.event_laws.specs.Held.{HasReceipt, AllSound}
 use Rattle.event_laws.proofs.PositionLemmas.{follows_begins, taken_stands}
 use Rattle.event_laws.proofs.SpawnLemmas.{Spawns, task_spawn}
 use Rattle.event_laws.proofs.SourceLemmas.{apart, one_name, planned_at, Source, of_main, of_task, source}
