@@ -4,4 +4,6 @@
 pub mod carrying;
 pub mod laws;
 pub mod store;
+#[cfg(test)]
+mod tests;
 pub mod turns;
