@@ -11,7 +11,7 @@ all-requires-clause-known g c = known
     known zero lt = (
       _,
       c.add.ensures 0
-          ∙ ap (λ (o : Option Row). row_or o (row_at c.set.new.self 0)) (c.set-2.ensures.others 0 (λ e. omega (arith, e)) ∙ ap (λ (rows : List (Option Row)). row_at rows 0) c.none-others.ensures)
+          ∙ ap (λ (o : Option Row). row_or o (row_at c.set.new.self 0)) (c.set-2.ensures.others 0 (λ e. omega (arith, e)) ∙ ap (λ (all : List (Option Row)). row_at all 0) c.none-others.ensures)
           ∙ c.set.ensures.own,
     )
     known (suc zero) lt = (_, c.add.ensures 1 ∙ ap (λ (o : Option Row). row_or o (row_at c.set.new.self 1)) c.set-2.ensures.own)
